@@ -1,4 +1,4 @@
--- What the three fits choose. Words: beats, beaten, lowest, chosen.
+-- What the three fits choose. Words: beats, beaten, lowest, chosen, first-fit, worst-fit, best-fit.
 use mathlib.Core.Bool.{Bool, true, false, cond, not, _&&_}
 use mathlib.Core.List.{List, [], _∷_}
 use Prim.Native.Nat.{ℕ, suc}
@@ -30,3 +30,15 @@ lowest fit parts room above named =
 abbrev pub chosen : Fit → List ℕ → ℕ → Option ℕ
 chosen fit [] parts = None
 chosen fit (room ∷ above) parts = lowest fit parts room above (chosen fit above parts)
+
+-- The lowest core with room for the parts.
+abbrev pub first-fit : List ℕ → ℕ → Option ℕ
+first-fit rooms parts = chosen First rooms parts
+
+-- The core with most room, if that is enough for the parts.
+abbrev pub worst-fit : List ℕ → ℕ → Option ℕ
+worst-fit rooms parts = chosen Worst rooms parts
+
+-- The core with least room of those with room for the parts.
+abbrev pub best-fit : List ℕ → ℕ → Option ℕ
+best-fit rooms parts = chosen Best rooms parts

@@ -3,9 +3,8 @@ ghost use mathlib.Core.Path.{_≡_};
 ghost use Prim.Native.Nat.{_<_};
 ghost use lib.ListN.{length};
 ghost use Rattle.std.specs.Slices.{found};
-ghost use Rattle.policy.specs.Choices.{beats, beaten, chosen};
+ghost use Rattle.policy.specs.Choices.{beats, beaten, chosen, first-fit, worst-fit, best-fit};
 ghost use Rattle.policy.specs.Pins.{LowestThatSuffices, MostRoom, LeastRoom};
-ghost use Rattle.policy.specs.declared.fits.Fit.the-variants.{First, Worst, Best};
 use crate::Policy;
 
 // The lowest core with room for the parts.
@@ -21,10 +20,10 @@ pub struct WorstFit;
 pub struct BestFit;
 
 pub impl Policy for FirstFit as FirstFitPolicy {
-    ghost choice = { λ _. chosen First };
+    ghost choice = { λ _. first-fit };
 
     fn choose(&self, rooms: &[u32], parts: u32) -> Option<usize>
-        ensures answer { λ r. ⌜ r ≡ chosen First (now (rooms .entry)) parts ⌝ }
+        ensures answer { λ r. ⌜ r ≡ first-fit (now (rooms .entry)) parts ⌝ }
         ensures lowest { λ r. ⌜ LowestThatSuffices (now (rooms .entry)) parts r ⌝ }
     {
         pick(Fit::First, rooms, parts)
@@ -32,10 +31,10 @@ pub impl Policy for FirstFit as FirstFitPolicy {
 }
 
 pub impl Policy for WorstFit as WorstFitPolicy {
-    ghost choice = { λ _. chosen Worst };
+    ghost choice = { λ _. worst-fit };
 
     fn choose(&self, rooms: &[u32], parts: u32) -> Option<usize>
-        ensures answer { λ r. ⌜ r ≡ chosen Worst (now (rooms .entry)) parts ⌝ }
+        ensures answer { λ r. ⌜ r ≡ worst-fit (now (rooms .entry)) parts ⌝ }
         ensures most { λ r. ⌜ MostRoom (now (rooms .entry)) r ⌝ }
     {
         pick(Fit::Worst, rooms, parts)
@@ -43,10 +42,10 @@ pub impl Policy for WorstFit as WorstFitPolicy {
 }
 
 pub impl Policy for BestFit as BestFitPolicy {
-    ghost choice = { λ _. chosen Best };
+    ghost choice = { λ _. best-fit };
 
     fn choose(&self, rooms: &[u32], parts: u32) -> Option<usize>
-        ensures answer { λ r. ⌜ r ≡ chosen Best (now (rooms .entry)) parts ⌝ }
+        ensures answer { λ r. ⌜ r ≡ best-fit (now (rooms .entry)) parts ⌝ }
         ensures least { λ r. ⌜ LeastRoom (now (rooms .entry)) parts r ⌝ }
     {
         pick(Fit::Best, rooms, parts)
