@@ -60,3 +60,6 @@ pub fn worked() -> bool
 {
     rounded() && catalogued() && placed()
 }
+
+#[cfg(test)]
+mod tests;

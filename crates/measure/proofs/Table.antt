@@ -32,7 +32,6 @@ priced-fair whole (row ∷ others) h budget period parts e =
     grind (arith, tells)
 
 all-fair : every catalogueWhole rows ≡ true
-unfolding rows
 all-fair = refl
 
 module _ (budget period parts : ℕ) (taken : catalogue budget period ≡ Some parts) where

@@ -23,7 +23,7 @@ abbrev pub catalogueWhole : ℕ
 catalogueWhole = 1000
 
 -- The rows of the catalogue: budget, period and parts.
-unfoldable pub rows : List (ℕ × ℕ × ℕ)
+abbrev pub rows : List (ℕ × ℕ × ℕ)
 rows =
     (4, 20, 200) ∷ (10, 50, 220) ∷ (3, 100, 30) ∷ (7, 30, 234) ∷ (1, 3, 334) ∷ (25, 200, 125) ∷ (40, 1000, 40)
     ∷ (5, 7, 715)

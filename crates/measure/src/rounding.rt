@@ -3,6 +3,8 @@ ghost use Rattle.measure.specs.Meanings.{roundedWhole, rounded};
 use crate::Measure;
 use terms::Terms;
 
+const WHOLE: u64 = 1_048_576;
+
 #[derive(Clone, Copy, Debug)]
 pub struct Rounded;
 
@@ -12,12 +14,12 @@ pub impl Measure for Rounded as RoundedMeasure {
     ghost price = { λ _. rounded };
 
     fn whole(&self) -> u32 {
-        1_048_576
+        WHOLE as u32
     }
 
     fn parts(&self, terms: Terms) -> Option<u32> {
         let budget = terms.budget() as u64;
         let period = terms.period() as u64;
-        Some(((budget * 1_048_576 + (period - 1)) / period) as u32)
+        Some(((budget * WHOLE + (period - 1)) / period) as u32)
     }
 }

@@ -1,10 +1,6 @@
-use mathlib.Core.Path.{sym}
+use borrow.Author.Needs.{needs}
 use Rattle.policy.proofs.Chosen.{best-has-least}
 use Rattle.policy.proofs.fits.BestFitPolicy.choose.Needs as need
 
 pub returns : need.returns
-returns c =
-    record {
-      answer = c .pick .ensures;
-      least = rw (c .pick .ensures) (best-has-least (c .args .rooms .now) (c .args .parts));
-    }
+returns c = search (needs, best-has-least)

@@ -1,10 +1,6 @@
-use mathlib.Core.Path.{sym}
+use borrow.Author.Needs.{needs}
 use Rattle.policy.proofs.Chosen.{first-is-lowest}
 use Rattle.policy.proofs.fits.FirstFitPolicy.choose.Needs as need
 
 pub returns : need.returns
-returns c =
-    record {
-      answer = c .pick .ensures;
-      lowest = rw (c .pick .ensures) (first-is-lowest (c .args .rooms .now) (c .args .parts));
-    }
+returns c = search (needs, first-is-lowest)

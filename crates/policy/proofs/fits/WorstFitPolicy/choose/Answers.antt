@@ -1,10 +1,6 @@
-use mathlib.Core.Path.{sym}
+use borrow.Author.Needs.{needs}
 use Rattle.policy.proofs.Chosen.{worst-has-most}
 use Rattle.policy.proofs.fits.WorstFitPolicy.choose.Needs as need
 
 pub returns : need.returns
-returns c =
-    record {
-      answer = c .pick .ensures;
-      most = rw (c .pick .ensures) (worst-has-most (c .args .rooms .now) (c .args .parts));
-    }
+returns c = search (needs, worst-has-most)
