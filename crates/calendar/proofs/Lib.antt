@@ -1,3 +1,4 @@
+pub mod Ranks
 pub mod Filing
 pub mod Sorted
 pub mod Counts

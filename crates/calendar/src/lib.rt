@@ -7,6 +7,7 @@ ghost use lib.ListN.{length, getD, set, take};
 ghost use Rattle.calendar.specs.Orders.{Total};
 ghost use Rattle.calendar.specs.Queues.{filed, queue, first, after, without, named};
 ghost use Rattle.calendar.specs.Places.{held, size, counting, put-answer, put-calendar, put-places, put-queue, OneWritten, less, Kept, LeastAt, FoundAt};
+use terms::Refusal;
 
 // A total order: `before x y` says that `x` is at most `y`.
 pub trait Order: Copy {
@@ -16,12 +17,6 @@ pub trait Order: Copy {
 
     fn at_most(self, other: Self) -> bool
         ensures { λ r. ⌜ r ≡ before self other ⌝ };
-}
-
-// The places are full.
-#[derive(Clone, Copy, Debug, PartialEq, Eq)]
-pub enum Full {
-    Full,
 }
 
 // How many of the caller's places are held, from the front. The places are passed to each call.
@@ -46,14 +41,14 @@ impl Calendar {
     }
 
     // Puts one more in, unless the places are full.
-    pub fn put<T: Order>(&mut self, places: &mut [T], x: T) -> Result<(), Full>
+    pub fn put<T: Order>(&mut self, places: &mut [T], x: T) -> Result<(), Refusal>
         ensures answer { λ r. ⌜ r ≡ put-answer (now (self .entry)) (now (places .entry)) ⌝ }
         ensures next { λ _. ⌜ now (self .exit) ≡ put-calendar (now (self .entry)) (now (places .entry)) ⌝ }
         ensures written { λ _. ⌜ now (places .exit) ≡ put-places x (now (self .entry)) (now (places .entry)) ⌝ }
         ensures ordered { λ _. ⌜ queue before (held (now (self .exit)) (now (places .exit))) ≡ put-queue before x (now (self .entry)) (now (places .entry)) ⌝ }
     {
         if self.count >= places.len() {
-            return Err(Full::Full);
+            return Err(Refusal::CalendarFull);
         }
         places[self.count] = x;
         self.count += 1;
