@@ -51,6 +51,10 @@ module _ {X : Type 0} (before : X → X → Bool) where
   holds-append x [] ys = refl
   holds-append x (z ∷ xs) ys = let h = holds-append x xs ys in grind arith
 
+  pub copies-push : (x : X) (xs : List X) (y : X) → copies before x (xs ++ y ∷ []) ≡ copies before x xs + cond (alike before x y) 1 0
+  copies-push x [] y = omega arith
+  copies-push x (z ∷ xs) y = omega (arith, copies-push x xs y)
+
   -- one that is not held is not taken out
   pub without-none : (x : X) (xs : List X) → holds before x xs ≡ false → without before x xs ≡ xs
   without-none x [] none = refl

@@ -7,18 +7,19 @@ use mathlib.Core.List.{List, [], _∷_, _++_}
 use Prim.Native.Nat.{ℕ, suc, _+_, _-_, _<_, _≤_, min}
 use native.Mathlib.Omega.{arith}
 use lib.ListN.{length, getD, take, drop, set}
+use Rattle.std.specs.declared.option.Option.{Option}
 use Rattle.std.specs.declared.option.Option.the-variants.{Some, None}
 use Rattle.std.specs.shelf.Lists.{All}
 use Rattle.std.proofs.shelf.Lists.{getD-read, getD-take, length-take-le, take-all, take-more, take-more-set, getD-set-other, drop-set-lt}
 use Rattle.std.proofs.shelf.Elements.{all-from-getD}
 use Rattle.std.proofs.shelf.Tests.{cases-lt}
 use Rattle.calendar.specs.Orders.{Total, alike}
-use Rattle.calendar.specs.Queues.{filed, queue, first, after, without, holds}
+use Rattle.calendar.specs.Queues.{filed, queue, first, after, without, holds, copies, Least}
 use Rattle.calendar.specs.Places.{held, size, counting, OneWritten, LeastAt, FoundAt}
 use Rattle.calendar.specs.declared.Calendar.{Calendar}
 use Rattle.calendar.proofs.Filing.{other-way, itself, queue-push, queue-hole}
-use Rattle.calendar.proofs.Sorted.{Heads, queue-least}
-use Rattle.calendar.proofs.Counts.{holds-append, holds-at, holds-queue, without-none}
+use Rattle.calendar.proofs.Sorted.{Heads, queue-least, first-none, first-some}
+use Rattle.calendar.proofs.Counts.{alike-same, copies-push, holds-append, holds-at, holds-queue, without-none}
 
 -- the count of places held says what is held
 pub take-size : {X : Type 0} (xs : List X) (c n : ℕ) → n ≡ min c (length xs) → take c xs ≡ take n xs
@@ -26,6 +27,11 @@ take-size xs c n is =
     ⊎-elim (λ lt. let same : c ≡ n = omega arith in ap (λ k. take k xs) same)
     (λ ge. take-all c xs ge ∙ sym (take-all n xs (omega arith)))
     (cases-lt c (length xs))
+
+-- one more is counted
+pub copies-more : {X : Type 0} (before : X → X → Bool) (x : X) (xs : List X) (i : ℕ) (y : X) → i < length xs → y ≡ getD xs i y → copies before x (take (i + 1) xs) ≡ copies before x (take i xs) + cond (alike before x y) 1 0
+copies-more before x xs i y within isy =
+    ap (copies before x) (take-more xs i y within ∙ ap (λ z. take i xs ++ z ∷ []) (sym isy)) ∙ copies-push before x (take i xs) y
 
 -- where no place is held nothing is
 pub nothing : {X : Type 0} (xs : List X) (c n : ℕ) → n ≡ min c (length xs) → n ≡ 0 → take c xs ≡ []
@@ -78,6 +84,11 @@ module _ {X : Type 0} {before : X → X → Bool} (o : Total before) where
   pub put-ordered : (xs : List X) (n : ℕ) (x : X) → n < length xs → queue before (take (n + 1) (set xs n x)) ≡ filed before x (queue before (take n xs))
   put-ordered xs n x h = ap (queue before) (take-more-set xs n x h) ∙ queue-push o (take n xs) x
 
+  -- the least, as a member that is at most all
+  pub least-is : (xs : List X) (r : Option X) → r ≡ first (queue before xs) → Least before xs r
+  least-is xs None is = first-none o xs (sym is)
+  least-is xs (Some x) is = first-some o xs x (sym is)
+
   -- the one at the least place stands first
   pub least-first : (xs : List X) (c n p : ℕ) (r : X) → n ≡ min c (length xs) → LeastAt before xs n p → r ≡ getD xs p r → queue before (take c xs) ≡ r ∷ without before r (queue before (take c xs))
   least-first xs c n p r is (lt, all) isr =
@@ -110,9 +121,9 @@ module _ {X : Type 0} {before : X → X → Bool} (o : Total before) where
       rw (more, joined, none, apart)
 
   -- the one looked for is at this place
-  pub here : (xs : List X) (n i : ℕ) (x y : X) → i < n → n ≤ length xs → y ≡ getD xs i y → before x y ≡ true → before y x ≡ true → FoundAt before x (take n xs) (Some i)
-  here xs n i x y lt le isy one two =
-      (omega (arith, length-take-le n xs le), λ d. getD-take n xs i d lt ∙ sym (getD-read xs i y (omega arith) isy d) ∙ sym (o .same x y one two))
+  pub here : (xs : List X) (n i : ℕ) (x y : X) → i < n → n ≤ length xs → y ≡ getD xs i y → alike before x y ≡ true → FoundAt before x (take n xs) (Some i)
+  here xs n i x y lt le isy same =
+      (omega (arith, length-take-le n xs le), λ d. getD-take n xs i d lt ∙ sym (getD-read xs i y (omega arith) isy d) ∙ sym (alike-same o x y same))
 
   -- the one found is the one looked for, and is held
   pub found : (xs : List X) (c n p : ℕ) (x r : X) → n ≡ min c (length xs) → FoundAt before x (take n xs) (Some p) → r ≡ getD xs p r → (r ≡ x) × (holds before x (take c xs) ≡ true) × (p < n)

@@ -1,3 +1,4 @@
 pub mod Orders
 pub mod Queues
+pub mod Bags
 pub mod Places

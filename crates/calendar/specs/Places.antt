@@ -11,8 +11,8 @@ use Rattle.std.specs.declared.option.Option.the-variants.{Some, None}
 use Rattle.std.specs.declared.result.Result.{Result}
 use Rattle.std.specs.declared.result.Result.the-variants.{Ok, Err}
 use Rattle.calendar.specs.declared.Calendar.{Calendar}
-use Rattle.calendar.specs.declared.Full.{Full}
-use Rattle.calendar.specs.declared.Full.the-variants as full
+use Rattle.terms.specs.declared.refusals.Refusal.{Refusal}
+use Rattle.terms.specs.declared.refusals.Refusal.the-variants.{CalendarFull}
 use Rattle.calendar.specs.Queues.{filed, queue, holds}
 
 -- What a calendar holds: its count of the places from the front, or all of them where there are fewer.
@@ -32,8 +32,8 @@ abbrev pub counting : ℕ → Calendar
 counting n = record { count = n }
 
 -- Putting answers that it is done, or that the places are full.
-abbrev pub put-answer : {X : Type 0} → Calendar → List X → Result (Unit {0}) Full
-put-answer c places = cond (roomy c places) (Ok tt) (Err full.Full)
+abbrev pub put-answer : {X : Type 0} → Calendar → List X → Result (Unit {0}) Refusal
+put-answer c places = cond (roomy c places) (Ok tt) (Err CalendarFull)
 
 -- Putting raises the count by one, where there is a place.
 abbrev pub put-calendar : {X : Type 0} → Calendar → List X → Calendar

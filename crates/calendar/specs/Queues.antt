@@ -48,6 +48,11 @@ abbrev pub copies : {X : Type 0} → (X → X → Bool) → X → List X → ℕ
 copies before x [] = 0
 copies before x (y ∷ ys) = cond (alike before x y) 1 0 + copies before x ys
 
+-- An answer is an element of a list that is at most each of them, or none of an empty list.
+abbrev pub Least : {X : Type 0} → (X → X → Bool) → List X → Option X → Type 0
+Least before xs None = xs ≡ []
+Least before xs (Some x) = (holds before x xs ≡ true) × All (λ y. before x y ≡ true) xs
+
 -- Each element is at most all that follow it.
 abbrev pub Ascending : {X : Type 0} → (X → X → Bool) → List X → Type 0
 Ascending before [] = Unit {0}

@@ -1,8 +1,8 @@
 use mathlib.Core.Path.{sym}
 use native.Mathlib.Omega.{arith}
 use Rattle.calendar.proofs.Steps.{least-keeps, least-takes}
-use Rattle.calendar.proofs.least_place.Needs as need
-use Rattle.calendar.proofs.least_place.Needs.{then-not-at-most, else-not-at-most}
+use Rattle.calendar.proofs.scans.least_place.Needs as need
+use Rattle.calendar.proofs.scans.least_place.Needs.{then-not-at-most, else-not-at-most}
 
 pub loop-i-again : need.loop-i-again
 loop-i-again g c =
