@@ -1,14 +1,14 @@
 -- The order of the ledger's entries.
-use mathlib.Core.Bool.{Bool, cond}
+use mathlib.Core.Bool.{Bool}
+use mathlib.Core.List.{List, [], _∷_}
 use Prim.Native.Nat.{ℕ}
-use lib.Dec.{eqb, leb, ltb}
+use Rattle.calendar.specs.Orders.{in-turn}
 use Rattle.rules.specs.declared.types.Entry.{Entry}
 
--- The lower of two figures goes first; where they are the same, something else decides.
-abbrev pub lower : ℕ → ℕ → Bool → Bool
-lower m n otherwise = cond (eqb m n) otherwise (ltb m n)
+-- An entry goes by its lapse tick, then its number, then its core, then its parts.
+abbrev pub entryFigures : Entry → List ℕ
+entryFigures e = e .lapse ∷ e .number ∷ e .core ∷ e .parts ∷ []
 
--- An entry goes before another by its lapse tick, then its number, then its core, then its parts.
+-- An entry goes before another by its figures in turn.
 abbrev pub lapsesFirst : Entry → Entry → Bool
-lapsesFirst x y =
-    lower (x .lapse) (y .lapse) (lower (x .number) (y .number) (lower (x .core) (y .core) (leb (x .parts) (y .parts))))
+lapsesFirst x y = in-turn (entryFigures x) (entryFigures y)

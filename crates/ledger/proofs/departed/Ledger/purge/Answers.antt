@@ -23,4 +23,4 @@ ghost-self c =
 pub returns-else-self-clock : need.returns-else-self-clock
 returns-else-self-clock c =
     let l = c .args .self .now in
-    ap (queue lapsesFirst) (sym (purged-none (c .args .clock) (l .earliest) (entries l) (c .if-self-clock .left) (l .later)))
+    ap (queue lapsesFirst) (sym (purged-none (c .args .clock) (l .earliest) (entries l) (omega arith) (l .later)))

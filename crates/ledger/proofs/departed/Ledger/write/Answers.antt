@@ -18,5 +18,5 @@ pub ghost-self : need.ghost-self
 ghost-self c =
     let l = c .args .self .now in
     let short : l .calendar .count < length (l .places) = omega (arith, length-take-le (l .calendar .count) (l .places)) in
-    let done = put-one (l .earliest) _ (c .args .entry) (l .calendar) (c .put .last .self) (l .places) (c .put .last .places) (record { long = l .long; within = l .within; later = l .later }) short (c .min-self .ensures) (c .put .ensures .next) (c .put .ensures .written) in
+    let done = put-one (l .earliest) _ (c .args .entry) (l .calendar) (c .put .last .self) (l .places) (c .put .last .places) (record { long = l .long; within = l .within; later = l .later }) short (omega arith) (c .put .ensures .next) (c .put .ensures .written) in
     (done .long, (done .within, (done .later, tt)))
