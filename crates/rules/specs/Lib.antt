@@ -1,0 +1,11 @@
+pub mod Lists
+pub mod Setup
+pub mod System
+pub mod Order
+pub mod Parts
+pub mod Server
+pub mod Dealing
+pub mod Calls
+pub mod Questions
+pub mod Replay
+pub mod Share
