@@ -58,13 +58,14 @@ pub purged-none : (clock t : ℕ) (es : List Entry) → clock < t → noneBefore
 purged-none clock t es lt h =
     kept-all (lapsesAfter clock) es (all-weaker (From t) (λ e. lapsesAfter clock e ≡ true) (λ e le. lt-ltb clock (e .lapse) (omega arith)) es (tells-from t es .0 h))
 
--- what the ledger's ghost fields say, after one more was put
-pub record Put (t : ℕ) (c : Calendar) (es : List Entry) : Type 0 where
+-- what the ledger's ghost fields say
+pub record Sound (t : ℕ) (c : Calendar) (es : List Entry) : Type 0 where
   pub long : length es ≡ ledgerLimit
   pub within : c .count ≤ ledgerLimit
   pub later : noneBefore t (take (c .count) es) ≡ true
 
-pub put-one : (t m : ℕ) (e : Entry) (c c′ : Calendar) (es es′ : List Entry) → Put t c es → c .count < length es → m ≡ min t (e .lapse) → c′ ≡ put-calendar c es → es′ ≡ put-places e c es → Put m c′ es′
+-- one more is put
+pub put-one : (t m : ℕ) (e : Entry) (c c′ : Calendar) (es es′ : List Entry) → Sound t c es → c .count < length es → m ≡ min t (e .lapse) → c′ ≡ put-calendar c es → es′ ≡ put-places e c es → Sound m c′ es′
 put-one t m e c c′ es es′ was room least next put =
     let roomy = lt-ltb (c .count) (length es) room in
     let count : c′ ≡ counting (c .count + 1) = next ∙ cond-true _ _ _ roomy in

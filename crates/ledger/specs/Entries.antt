@@ -18,7 +18,8 @@ use Rattle.rules.specs.System.{ledgerLimit}
 use Rattle.ledger.specs.declared.departed.Ledger.{Ledger}
 use Rattle.ledger.specs.Lapses.{lapsesAfter}
 
--- The entries in the ledger, as its places arrange them.
+-- The entries in the ledger, as its places arrange them. The arrangement and the tick before which none lapses are not fixed: no answer
+-- depends on them.
 abbrev pub entries : Ledger → List Entry
 entries l = held (l .calendar) (l .places)
 
@@ -39,8 +40,8 @@ abbrev pub written : Entry → List Entry → List Entry
 written e es = cond (roomFor es) (e ∷ es) es
 
 -- Where there is no place for one more, the ledger is as it was.
-abbrev pub Refused : Ledger → Ledger → Type 0
-Refused l l′ = roomFor (entries l) ≡ false → l′ ≡ l
+abbrev pub KeptIfFull : Ledger → Ledger → Type 0
+KeptIfFull l l′ = roomFor (entries l) ≡ false → l′ ≡ l
 
 -- The entries that lapse after the tick t: the others go.
 abbrev pub purged : ℕ → List Entry → List Entry

@@ -8,7 +8,7 @@ ghost use Rattle.calendar.specs.Queues.{queue, first};
 ghost use Rattle.rules.specs.Order.{lapsesFirst};
 ghost use Rattle.rules.specs.Parts.{departedParts};
 ghost use Rattle.ledger.specs.Lapses.{countedParts};
-ghost use Rattle.ledger.specs.Entries.{entries, SameEntries, writeAnswer, written, Refused, purged};
+ghost use Rattle.ledger.specs.Entries.{entries, SameEntries, writeAnswer, written, KeptIfFull, purged};
 use super::LEDGER_LIMIT;
 use super::Ledger;
 use calendar::Calendar;
@@ -47,7 +47,7 @@ impl Ledger {
     pub fn write(&mut self, entry: Entry) -> Result<(), Refusal>
         ensures answer { λ r. ⌜ r ≡ writeAnswer (entries (now (self .entry))) ⌝ }
         ensures next { λ _. ⌜ SameEntries (entries (now (self .exit))) (written entry (entries (now (self .entry)))) ⌝ }
-        ensures refused { λ _. ⌜ Refused (now (self .entry)) (now (self .exit)) ⌝ }
+        ensures refused { λ _. ⌜ KeptIfFull (now (self .entry)) (now (self .exit)) ⌝ }
     {
         if self.len() == LEDGER_LIMIT {
             return Err(Refusal::LedgerFull);
