@@ -1,0 +1,5 @@
+pub mod Filing
+pub mod Sorted
+pub mod Counts
+pub mod Filters
+pub mod Steps
