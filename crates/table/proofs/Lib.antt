@@ -1,0 +1,10 @@
+pub mod Waiting
+pub mod Ties
+pub mod Fits
+pub mod Search
+pub mod Upkeep
+pub mod Turned
+pub mod Tables
+pub mod Picking
+pub mod Sums
+pub mod Passing

@@ -1,0 +1,15 @@
+use Rattle.table.proofs.Fits.{fit-onCore}
+use Rattle.table.proofs.Tables.{sound-of}
+use Rattle.table.proofs.live.Table.transfer.Needs as need
+
+pub seek-requires : need.seek-requires
+seek-requires c κs = sound-of (c .args .self .now)
+
+pub replace-requires : need.replace-requires
+replace-requires c κs =
+    let found = c .in-Some .ensures tt in
+    record {
+      sound = sound-of (c .args .self .now);
+      within = found .within;
+      fits = fit-onCore (c .args .self .now .inner .clock) (c .in-Some .row) (c .args .core) (found .fits) (c .if-core-ge8 .left);
+    }
