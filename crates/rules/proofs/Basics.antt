@@ -119,6 +119,9 @@ ticked-number names t r =
     same : chargedIf names r .number ≡ r .number
     same = cond-both (isName (r .number) (getD names (r .core) None)) _ _ (λ (x : Reservation). x .number ≡ r .number) (λ _. refl) (λ _. refl)
 
+pub woken-number : (t : ℕ) (r : Reservation) → woken t r .number ≡ r .number
+woken-number t r = cond-both (keeps t r) _ _ (λ (x : Reservation). x .number ≡ r .number) (λ _. refl) (λ _. refl)
+
 lapsing-after : (σ : System) (r : Reservation) → All (λ e. σ .clock < e .lapse) (σ .ledger) → All (λ e. σ .clock < e .lapse) (ledgerAfter σ r)
 lapsing-after σ r a = cond-both (entryDue σ r) _ _ (All (λ e. σ .clock < e .lapse)) (λ e. (ltb-true (σ .clock) (lapse r) e, a)) (λ _. a)
 
@@ -144,16 +147,13 @@ basic-step s law σ c a σ′ b (admits q p parts core limits taken settled plac
       due = omega arith;
     }
 basic-step s law σ c a σ′ b (wakes n r settled live resting) = record {
-  ascending = above-change 0 n (woken (σ .clock) r) (σ .live) (woken-number ∙ found-number n (σ .live) r live) (b .ascending);
+  ascending = above-change 0 n (woken (σ .clock) r) (σ .live) (woken-number (σ .clock) r ∙ found-number n (σ .live) r live) (b .ascending);
   fair = all-change (Fair s (σ .clock) (σ .given)) n _ (σ .live) (fair-woken s (σ .clock) (σ .given) r (fair-at s σ b n r live)) (b .fair);
   dealt = λ e. absurd (both-ways (σ .out) settled e);
   none-dealt = b .none-dealt;
   lapsing = b .lapsing;
   started = b .started;
 }
-  where
-    woken-number : woken (σ .clock) r .number ≡ r .number
-    woken-number = cond-both (keeps (σ .clock) r) _ _ (λ (x : Reservation). x .number ≡ r .number) (λ _. refl) (λ _. refl)
 basic-step s law σ c a σ′ b (rests n r settled live wants) = record {
   ascending = above-change 0 n (rested r) (σ .live) (found-number n (σ .live) r live) (b .ascending);
   fair = all-change (Fair s (σ .clock) (σ .given)) n _ (σ .live) (fair-rested s (σ .clock) (σ .given) r (fair-at s σ b n r live)) (b .fair);
