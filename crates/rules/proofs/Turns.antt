@@ -101,3 +101,21 @@ module _ (s : Setup) (σ : System) (b : Basic s σ) (n : ℕ) (x : Reservation) 
   -- What any call does to a live reservation.
   pub turn : (c : Call) → Turn n σ x (stops n c && accepts s σ c) (isSettle c && accepts s σ c) (isSettle c && accepts s σ c && isNamed n (σ .names)) (next s σ c)
   turn c = by-step s σ c (λ t _ σ′. Turn n σ x (stops n c && t) (isSettle c && t) (isSettle c && t && isNamed n (σ .names)) σ′) (λ _. refusal-turn (stops n c) (isSettle c) (isNamed n (σ .names))) (step-turn c)
+
+-- What holds of the reservation after each kind of turn holds of the one found in the next state.
+pub by-turn : (n : ℕ) (σ : System) (x : Reservation) (P : Bool → Reservation → Type 0) → P false x → (isResting (x .state) ≡ true → P false (woken (σ .clock) x)) → P false (rested x) → ((core : ℕ) → P false (onCore x core)) → ((run : Bool) → (run ≡ true → isReady (x .state) ≡ true) → P run (refilled (σ .clock + 1) (cond run (charged x) x))) → (stop tick run : Bool) (σ′ : System) → Turn n σ x stop tick run σ′ → (y : Reservation) → find n (σ′ .live) ≡ Some y → P run y
+by-turn n σ x P as-is by-wake by-rest by-move by-tick stop tick run σ′ (kept clock live) y h = subst (P false) (some-same (sym live ∙ h)) as-is
+by-turn n σ x P as-is by-wake by-rest by-move by-tick stop tick run σ′ (woke clock resting live) y h = subst (P false) (some-same (sym live ∙ h)) (by-wake resting)
+by-turn n σ x P as-is by-wake by-rest by-move by-tick stop tick run σ′ (stopped clock live) y h = subst (P false) (some-same (sym live ∙ h)) by-rest
+by-turn n σ x P as-is by-wake by-rest by-move by-tick stop tick run σ′ (left clock given none) y h = absurd (none-some (sym none ∙ h))
+by-turn n σ x P as-is by-wake by-rest by-move by-tick stop tick run σ′ (moved clock core live) y h = subst (P false) (some-same (sym live ∙ h)) (by-move core)
+by-turn n σ x P as-is by-wake by-rest by-move by-tick stop tick run σ′ (passed clock w ready live) y h = subst (P w) (some-same (sym live ∙ h)) (by-tick w ready)
+
+-- One that is not live any more has left.
+pub turn-gone : (n : ℕ) (σ : System) (x : Reservation) (stop tick run : Bool) (σ′ : System) → Turn n σ x stop tick run σ′ → find n (σ′ .live) ≡ None → n ≤ σ′ .given
+turn-gone n σ x stop tick run σ′ (kept clock live) h = absurd (none-some (sym h ∙ live))
+turn-gone n σ x stop tick run σ′ (woke clock resting live) h = absurd (none-some (sym h ∙ live))
+turn-gone n σ x stop tick run σ′ (stopped clock live) h = absurd (none-some (sym h ∙ live))
+turn-gone n σ x stop tick run σ′ (left clock given none) h = given
+turn-gone n σ x stop tick run σ′ (moved clock core live) h = absurd (none-some (sym h ∙ live))
+turn-gone n σ x stop tick run σ′ (passed clock w ready live) h = absurd (none-some (sym h ∙ live))
