@@ -69,9 +69,12 @@ length-roomsFrom : (σ : System) (c : ℕ) (bs : List ℕ) → length (roomsFrom
 length-roomsFrom σ c [] = refl
 length-roomsFrom σ c (b ∷ bs) = ap suc (length-roomsFrom σ (suc c) bs)
 
+pub length-bounds : (s : Setup) → length (bounds s) ≡ length (s .figures)
+length-bounds s = length-map (s .figures) (λ b. s .whole * b / 1000)
+
 -- There is a room for each core.
 pub length-rooms : (s : Setup) (σ : System) → length (rooms s σ) ≡ length (s .figures)
-length-rooms s σ = length-roomsFrom σ 0 (bounds s) ∙ length-map (s .figures) (λ b. s .whole * b / 1000)
+length-rooms s σ = length-roomsFrom σ 0 (bounds s) ∙ length-bounds s
 
 module _ (s : Setup) (t g : ℕ) (r : Reservation) (f : Fair s t g r) where
   fair-later : (t′ g′ : ℕ) → t ≤ t′ → g ≤ g′ → Fair s t′ g′ r
@@ -105,8 +108,9 @@ module _ (s : Setup) (t g : ℕ) (r : Reservation) (f : Fair s t g r) where
   fair-moved : (core : ℕ) → core < length (s .figures) → Fair s t g (onCore r core)
   fair-moved core h = record { number-high = f .number-high; core = h; limits = f .limits; priced = f .priced; ready = f .ready; spent = f .spent; within = f .within; due = f .due }
 
-  fair-charged : (names : List (Option ℕ)) → Fair s t g (chargedIf names r)
-  fair-charged names = cond-both _ _ _ (Fair s t g) (λ _. let w = f .within in fair-wanting (r .left - 1) (r .deadline) (r .ran + 1) (omega arith) (f .due)) (λ _. f)
+  pub fair-run : (run : Bool) → Fair s t g (cond run (charged r) r)
+  fair-run true = let w = f .within in fair-wanting (r .left - 1) (r .deadline) (r .ran + 1) (omega arith) (f .due)
+  fair-run false = f
 
 fair-refilled : (s : Setup) (t g : ℕ) (r : Reservation) → Fair s t g r → Fair s (t + 1) g (refilled (t + 1) r)
 fair-refilled s t g r f = cond-both (isDue (t + 1) r) _ _ (Fair s (t + 1) g) (λ e. let d : r .deadline ≡ t + 1 = eqb-true (r .deadline) (t + 1) (and-parts _ _ e .1) in fair-filled s t g r f (t + 1) (r .deadline + r .period) (omega arith)) (λ _. fair-later s t g r f (t + 1) g (omega arith) (omega arith))
@@ -188,7 +192,7 @@ basic-step s law σ c a σ′ b (deals settled going) = record {
 }
 basic-step s law σ c a σ′ b (settles tick out right) = record {
   ascending = above-map _ (ticked-number (σ .names) (σ .clock + 1)) 0 (σ .live) (b .ascending);
-  fair = all-map (Fair s (σ .clock + 1) (σ .given)) (λ r. refilled (σ .clock + 1) (chargedIf (σ .names) r)) (σ .live) (all-weaker (Fair s (σ .clock) (σ .given)) _ (λ r f. fair-refilled s (σ .clock) (σ .given) _ (fair-charged s (σ .clock) (σ .given) r f (σ .names))) (σ .live) (b .fair));
+  fair = all-map (Fair s (σ .clock + 1) (σ .given)) (λ r. refilled (σ .clock + 1) (chargedIf (σ .names) r)) (σ .live) (all-weaker (Fair s (σ .clock) (σ .given)) _ (λ r f. fair-refilled s (σ .clock) (σ .given) _ (fair-run s (σ .clock) (σ .given) r f (isName (r .number) (getD (σ .names) (r .core) None)))) (σ .live) (b .fair));
   dealt = λ e. absurd (both-ways false refl e);
   none-dealt = λ _. refl;
   lapsing = all-weaker (λ e. ltb (σ .clock + 1) (e .lapse) ≡ true) (λ e. σ .clock + 1 < e .lapse) (λ e h. ltb-true _ _ h) _ (kept-by-passes (λ e. ltb (σ .clock + 1) (e .lapse)) (σ .ledger));

@@ -34,7 +34,7 @@ pub data Turn (n : ℕ) (σ : System) (x : Reservation) : Bool → Bool → Bool
   kept : {σ′ : System} → σ′ .clock ≡ σ .clock → find n (σ′ .live) ≡ Some x → Turn n σ x false false false σ′
   woke : {σ′ : System} → σ′ .clock ≡ σ .clock → isResting (x .state) ≡ true → find n (σ′ .live) ≡ Some (woken (σ .clock) x) → Turn n σ x false false false σ′
   stopped : {σ′ : System} → σ′ .clock ≡ σ .clock → find n (σ′ .live) ≡ Some (rested x) → Turn n σ x true false false σ′
-  left : {σ′ : System} → σ′ .clock ≡ σ .clock → n ≤ σ′ .given → find n (σ′ .live) ≡ None → Turn n σ x true false false σ′
+  went : {σ′ : System} → σ′ .clock ≡ σ .clock → n ≤ σ′ .given → find n (σ′ .live) ≡ None → Turn n σ x true false false σ′
   moved : {σ′ : System} → σ′ .clock ≡ σ .clock → (core : ℕ) → find n (σ′ .live) ≡ Some (onCore x core) → Turn n σ x false false false σ′
   passed : {σ′ : System} → σ′ .clock ≡ σ .clock + 1 → (run : Bool) → (run ≡ true → isReady (x .state) ≡ true) → find n (σ′ .live) ≡ Some (refilled (σ .clock + 1) (cond run (charged x) x)) → Turn n σ x false true run σ′
 
@@ -77,7 +77,7 @@ module _ (s : Setup) (σ : System) (b : Basic s σ) (n : ℕ) (x : Reservation) 
       go true e =
           let high = fair-at s σ b n x live .number-high in
           let same = found-number n (σ .live) x live in
-          left refl (omega arith) (subst (λ (k : ℕ). find n (without k (σ .live)) ≡ None) (sym (eqb-true m n e)) (find-without-same 0 n (σ .live) (b .ascending)))
+          went refl (omega arith) (subst (λ (k : ℕ). find n (without k (σ .live)) ≡ None) (sym (eqb-true m n e)) (find-without-same 0 n (σ .live) (b .ascending)))
       go false e = kept refl (find-without-other n m (σ .live) (λ h. eqb-false m n e (sym h)) ∙ live)
   step-turn c a σ′ (moves m core r exists settled found other ahead fits place) = go (cases-eq n m)
     where
@@ -107,7 +107,7 @@ pub by-turn : (n : ℕ) (σ : System) (x : Reservation) (P : Bool → Reservatio
 by-turn n σ x P as-is by-wake by-rest by-move by-tick stop tick run σ′ (kept clock live) y h = subst (P false) (some-same (sym live ∙ h)) as-is
 by-turn n σ x P as-is by-wake by-rest by-move by-tick stop tick run σ′ (woke clock resting live) y h = subst (P false) (some-same (sym live ∙ h)) (by-wake resting)
 by-turn n σ x P as-is by-wake by-rest by-move by-tick stop tick run σ′ (stopped clock live) y h = subst (P false) (some-same (sym live ∙ h)) by-rest
-by-turn n σ x P as-is by-wake by-rest by-move by-tick stop tick run σ′ (left clock given none) y h = absurd (none-some (sym none ∙ h))
+by-turn n σ x P as-is by-wake by-rest by-move by-tick stop tick run σ′ (went clock given none) y h = absurd (none-some (sym none ∙ h))
 by-turn n σ x P as-is by-wake by-rest by-move by-tick stop tick run σ′ (moved clock core live) y h = subst (P false) (some-same (sym live ∙ h)) (by-move core)
 by-turn n σ x P as-is by-wake by-rest by-move by-tick stop tick run σ′ (passed clock w ready live) y h = subst (P w) (some-same (sym live ∙ h)) (by-tick w ready)
 
@@ -116,6 +116,6 @@ pub turn-gone : (n : ℕ) (σ : System) (x : Reservation) (stop tick run : Bool)
 turn-gone n σ x stop tick run σ′ (kept clock live) h = absurd (none-some (sym h ∙ live))
 turn-gone n σ x stop tick run σ′ (woke clock resting live) h = absurd (none-some (sym h ∙ live))
 turn-gone n σ x stop tick run σ′ (stopped clock live) h = absurd (none-some (sym h ∙ live))
-turn-gone n σ x stop tick run σ′ (left clock given none) h = given
+turn-gone n σ x stop tick run σ′ (went clock given none) h = given
 turn-gone n σ x stop tick run σ′ (moved clock core live) h = absurd (none-some (sym h ∙ live))
 turn-gone n σ x stop tick run σ′ (passed clock w ready live) h = absurd (none-some (sym h ∙ live))
