@@ -11,6 +11,7 @@ use Rattle.std.specs.declared.option.Option.{Option}
 use Rattle.std.specs.declared.option.Option.the-variants.{Some, None}
 use Rattle.rules.specs.declared.types.Reservation.{Reservation}
 use Rattle.rules.specs.Lists.{total, find, change, without}
+use Rattle.rules.proofs.Weights.{weight, weight-none, weight-sum}
 
 pub total-push : {X : Type 0} (f : X → ℕ) (xs : List X) (x : X) → total f (xs ++ x ∷ []) ≡ total f xs + f x
 total-push f [] x = omega arith
@@ -66,3 +67,26 @@ module _ (f : Reservation → ℕ) (n : ℕ) (r : Reservation) where
   -- A reservation found counts.
   pub total-found : (xs : List Reservation) → find n xs ≡ Some r → f r ≤ total f xs
   total-found xs h = omega (arith, total-without xs h)
+
+-- What holds of anything holds of each.
+pub all-anyway : {X : Type 0} (P : X → Type 0) → ((x : X) → P x) → (xs : List X) → All P xs
+all-anyway P h [] = tt
+all-anyway P h (x ∷ xs) = (h x, all-anyway P h xs)
+
+-- A filter of a mapped list filters what was mapped.
+pub kept-map : {X Y : Type 0} (p : Y → Bool) (f : X → Y) (xs : List X) → kept-by p (map f xs) ≡ map f (kept-by (λ x. p (f x)) xs)
+kept-map p f [] = refl
+kept-map p f (x ∷ xs) = go (p (f x)) (kept-map p f xs)
+  where
+    go : (b : Bool) → kept-by p (map f xs) ≡ map f (kept-by (λ x. p (f x)) xs) → cond b (f x ∷ kept-by p (map f xs)) (kept-by p (map f xs)) ≡ map f (cond b (x ∷ kept-by (λ x. p (f x)) xs) (kept-by (λ x. p (f x)) xs))
+    go true more = ap (λ ys. f x ∷ ys) more
+    go false more = more
+
+-- The weights of the parts that pass are the weight of their sum.
+pub total-weight : {X : Type 0} (p : X → Bool) (parts : X → ℕ) (xs : List X) → total (λ x. cond (p x) (weight (parts x)) 0) xs ≡ weight (total (λ x. cond (p x) (parts x) 0) xs)
+total-weight p parts [] = sym weight-none
+total-weight p parts (x ∷ xs) = go (p x) (total-weight p parts xs)
+  where
+    go : (b : Bool) → total (λ x. cond (p x) (weight (parts x)) 0) xs ≡ weight (total (λ x. cond (p x) (parts x) 0) xs) → cond b (weight (parts x)) 0 + total (λ x. cond (p x) (weight (parts x)) 0) xs ≡ weight (cond b (parts x) 0 + total (λ x. cond (p x) (parts x) 0) xs)
+    go true more = omega (arith, weight-sum (parts x) (total (λ x. cond (p x) (parts x) 0) xs))
+    go false more = omega (arith, weight-none, weight-sum 0 (total (λ x. cond (p x) (parts x) 0) xs))

@@ -68,6 +68,10 @@ pub weight-whole : (parts w : ℕ) → parts ≤ w → weight parts ≤ one w
 unfolding one weight
 weight-whole parts w h = mul-le-mul-right scale h
 
+pub weight-none : weight 0 ≡ 0
+unfolding weight
+weight-none = omega arith
+
 pub weight-sum : (a b : ℕ) → weight (a + b) ≡ weight a + weight b
 unfolding weight
 weight-sum a b = omega arith
