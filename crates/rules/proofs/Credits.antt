@@ -4,16 +4,16 @@ use mathlib.Core.Path.{_≡_, refl, sym, ap, subst, _∙_}
 use mathlib.Core.Logic.{_⊎_, inl, inr, ⊎-elim}
 use mathlib.Core.Bool.{Bool, true, false, cond, not, _&&_, _||_}
 use Prim.Native.Nat.{ℕ, _+_, _-_, _*_, _/_, _≤_, _<_}
-use native.Mathlib.Nat.{mul-zero, mul-le-mul-left, mul-le-mul-right, le-div-iff-mul-le}
+use native.Mathlib.Nat.{mul-zero, one-le-mul, mul-le-mul-left, mul-le-mul-right, le-div-iff-mul-le}
 use native.Mathlib.Omega.{arith}
 use lib.Dec.{eqb, ltb, leb}
 use Rattle.std.proofs.shelf.Ways.{tells}
-use Rattle.std.proofs.shelf.Tests.{ltb-true, ltb-false}
+use Rattle.std.proofs.shelf.Tests.{ltb-true, ltb-false, cases-lt}
 use Rattle.rules.specs.declared.types.Reservation.{Reservation}
 use Rattle.rules.specs.declared.types.State.{State}
 use Rattle.rules.specs.declared.types.State.the-variants.{Ready, Spent, Resting}
 use Rattle.rules.specs.Server.{isReady, isSpent, isResting, wanting, served, onCore, filledTo, keeps, woken, rested, charged, isDue, refilled, lapse, isBehind}
-use Rattle.rules.proofs.Weights.{one, rate, weight, rate-period, rate-weight, ahead, behind}
+use Rattle.rules.proofs.Weights.{one, one-low, rate, weight, rate-period, rate-weight, ahead, behind}
 
 -- The terms are within their limits, and the parts cover their share of the whole w.
 pub record Measured (w : ℕ) (r : Reservation) : Type 0 where
@@ -61,6 +61,18 @@ past w t r h =
     let over : r .deadline - t ≡ 0 = omega arith in
     let none : gain w r * (r .deadline - t) ≡ 0 = ap (λ (n : ℕ). gain w r * n) over ∙ mul-zero (gain w r) in
     (grind (arith, tells), omega arith)
+
+-- Up to the clock itself nothing is held, and there is no credit.
+pub none-due : (w t c : ℕ) (r : Reservation) → (due c t r (held w t r) ≡ 0) × (due c t r (credit w t r) ≡ 0)
+none-due w t c r =
+    ⊎-elim
+    (λ (later : t < r .deadline). (grind (arith, tells), grind (arith, tells)))
+    (λ (over : r .deadline ≤ t). let none = past w t r over in (grind (arith, tells), grind (arith, tells)))
+    (cases-lt t (r .deadline))
+
+-- One that is ready and due claims something.
+pub claiming : (w c d : ℕ) (r : Reservation) → 1 ≤ w → Stocked r → isReady (r .state) ≡ true → r .core ≡ c → r .deadline ≤ d → 1 ≤ due c d r (owed w r)
+claiming w c d r low k ready there near = let some : 1 ≤ one w * r .left = one-le-mul (one-low w low) (k .ready ready) in grind (arith, tells)
 
 pub waking : (w t c d : ℕ) (r : Reservation) → Measured w r → isResting (r .state) ≡ true → due c d (woken t r) (owed w (woken t r)) + due c d r (held w t r) ≤ due c d r (owed w r) + due c d (woken t r) (held w t (woken t r))
 waking w t c d r m resting = go (keeps t r) refl

@@ -5,6 +5,7 @@ use mathlib.Core.Logic.{_⊎_, inl, inr, ⊎-elim}
 use mathlib.Core.Bool.{Bool, true, false, cond, _&&_}
 use mathlib.Core.List.{List, [], _∷_, _++_, map}
 use Prim.Native.Nat.{ℕ, suc, _+_, _-_, _*_, _/_, _≤_, _<_}
+use native.Mathlib.Nat.{zero-add}
 use native.Mathlib.Omega.{arith}
 use lib.Dec.{eqb, ltb, leb}
 use lib.ListN.{length, getD}
@@ -77,7 +78,7 @@ newcomer s σ k r place c =
     (cases-eq (r .core) c)
 
 -- A reservation changed on its core.
-changed : (s : Setup) (σ : System) → Demand s σ → (n : ℕ) (r x : Reservation) → find n (σ .live) ≡ Some r → ((c d : ℕ) → due c d x (owed (s .whole) x) + due c d r (held (s .whole) (σ .clock) r) ≤ due c d r (owed (s .whole) r) + due c d x (held (s .whole) (σ .clock) x)) → ((c : ℕ) → countedFor c x ≡ countedFor c r) → Demand s (with-live σ (change n x (σ .live)))
+pub changed : (s : Setup) (σ : System) → Demand s σ → (n : ℕ) (r x : Reservation) → find n (σ .live) ≡ Some r → ((c d : ℕ) → due c d x (owed (s .whole) x) + due c d r (held (s .whole) (σ .clock) r) ≤ due c d r (owed (s .whole) r) + due c d x (held (s .whole) (σ .clock) x)) → ((c : ℕ) → countedFor c x ≡ countedFor c r) → Demand s (with-live σ (change n x (σ .live)))
 changed s σ k n r x live claims counts = record {
   gone = k .gone;
   ledger = k .ledger;
@@ -118,7 +119,7 @@ departing s σ k r m =
       counts = λ c. omega arith;
     })
 
-left : (s : Setup) (σ : System) → Demand s σ → (n : ℕ) (r : Reservation) → find n (σ .live) ≡ Some r → Measured (s .whole) r → Stocked r → Demand s (with-both σ (without n (σ .live)) (ledgerAfter σ r))
+pub left : (s : Setup) (σ : System) → Demand s σ → (n : ℕ) (r : Reservation) → find n (σ .live) ≡ Some r → Measured (s .whole) r → Stocked r → Demand s (with-both σ (without n (σ .live)) (ledgerAfter σ r))
 left s σ k n r live m q =
     let away = departing s σ k r m in
     record {
@@ -136,7 +137,7 @@ left s σ k n r live m q =
       fits = λ c. omega (arith, k .fits c, away .counts c, total-without (countedFor c) n r (σ .live) live);
     }
 
-moved : (s : Setup) (σ : System) → Demand s σ → (n core : ℕ) (r : Reservation) → find n (σ .live) ≡ Some r → Measured (s .whole) r → Stocked r → (r .core ≡ core → ⊥) → isBehind (σ .clock) r ≡ false → r .parts ≤ room s σ core → Demand s (with-both σ (change n (onCore r core) (σ .live)) (ledgerAfter σ r))
+pub moved : (s : Setup) (σ : System) → Demand s σ → (n core : ℕ) (r : Reservation) → find n (σ .live) ≡ Some r → Measured (s .whole) r → Stocked r → (r .core ≡ core → ⊥) → isBehind (σ .clock) r ≡ false → r .parts ≤ room s σ core → Demand s (with-both σ (change n (onCore r core) (σ .live)) (ledgerAfter σ r))
 moved s σ k n core r live m q other ahead place =
     let away = departing s σ k r m in
     record {
@@ -160,11 +161,18 @@ room-at σ k [] c = omega arith
 room-at σ k (b ∷ bs) ℕ.zero = ap (λ (x : ℕ). b - counted σ x) (omega arith)
 room-at σ k (b ∷ bs) (suc c) = room-at σ (suc k) bs c ∙ ap (λ (x : ℕ). getD bs c 0 - counted σ x) (omega arith)
 
+-- A core that the policy names has room for the parts sought.
+pub room-named : (s : Setup) → Lawful s → (σ : System) (parts core : ℕ) → s .choice (rooms s σ) parts ≡ Some core → parts ≤ room s σ core
+room-named s law σ parts core chosen =
+    let here = law .policy .room (rooms s σ) parts core chosen in
+    let same : getD (rooms s σ) core 0 ≡ room s σ core = room-at σ 0 (bounds s) core ∙ ap (λ (x : ℕ). bound s core - counted σ x) (zero-add core) in
+    omega arith
+
 -- One just admitted claims nothing.
 arriving : (w c d : ℕ) (σ : System) (q p parts core : ℕ) → due c d (admitted σ q p parts core) (owed w (admitted σ q p parts core)) ≡ 0
 arriving w c d σ q p parts core = grind (arith, tells)
 
-came : (s : Setup) (σ : System) → Demand s σ → (q p parts core : ℕ) → parts ≤ room s σ core → Demand s (with-newcomer σ (admitted σ q p parts core))
+pub came : (s : Setup) (σ : System) → Demand s σ → (q p parts core : ℕ) → parts ≤ room s σ core → Demand s (with-newcomer σ (admitted σ q p parts core))
 came s σ k q p parts core place =
     let r = admitted σ q p parts core in
     record {

@@ -5,7 +5,7 @@ use mathlib.Core.Logic.{_⊎_, inl, inr, ⊎-elim}
 use mathlib.Core.Bool.{Bool, true, false, cond, _&&_}
 use mathlib.Core.List.{List, [], _∷_, map}
 use Prim.Native.Nat.{ℕ, suc, _+_, _-_, _*_, _/_, _≤_, _<_}
-use native.Mathlib.Nat.{mul-le-mul-left}
+use native.Mathlib.Nat.{le-of-eq, mul-le-mul-left}
 use native.Mathlib.Omega.{arith}
 use lib.Dec.{eqb, ltb, leb}
 use lib.ListN.{length, getD}
@@ -14,9 +14,10 @@ use Rattle.std.specs.shelf.Lists.{All, kept-by}
 use Rattle.std.specs.declared.option.Option.{Option}
 use Rattle.std.specs.declared.option.Option.the-variants.{Some, None}
 use Rattle.std.proofs.shelf.Ways.{tells}
-use Rattle.std.proofs.shelf.Tests.{ltb-false, and-parts, eq-eqb, cases-lt, cond-both}
+use Rattle.std.proofs.shelf.Tests.{ltb-false, eqb-true, and-parts, and-from, eq-eqb, cases-lt, cond-both}
 use Rattle.std.proofs.shelf.Elements.{all-weaker, all-kept-by}
 use Rattle.rules.specs.declared.types.Reservation.{Reservation}
+use Rattle.rules.specs.declared.types.Entry.{Entry}
 use Rattle.rules.specs.Lists.{total, find}
 use Rattle.rules.specs.Setup.{Setup, figuresFit, making}
 use Rattle.rules.specs.System.{System}
@@ -81,3 +82,147 @@ spending s law σ b out c d r found =
       charging (s .whole) (σ .clock) c d r (isNamedOne σ r) (stocked-by s (σ .clock) (σ .given) r f) (named-ready s σ b out r found),
       passing (s .whole) (σ .clock) c d (chargedIf (σ .names) r) (measured-charged (s .whole) (σ .names) r m),
     )
+
+-- The departed whose lapse tick is after the new clock.
+abbrev lasting : System → List Reservation → List Reservation
+lasting σ rs = kept-by (λ r. ltb (σ .clock + 1) (lapse r)) rs
+
+-- A core's counted parts weigh at most one tick.
+counted-weight : (s : Setup) → Lawful s → (σ : System) → Demand s σ → (c : ℕ) → weight (liveParts c (σ .live)) + weight (departedParts (σ .clock) c (σ .ledger)) ≤ one (s .whole)
+counted-weight s law σ k c =
+    let fit = k .fits c in
+    let high = bound-high s law c in
+    omega (arith, weight-sum (liveParts c (σ .live)) (departedParts (σ .clock) c (σ .ledger)), weight-whole (counted σ c) (s .whole) (omega arith))
+
+-- The credit of the departed falls by at most the weight that the core counts for them.
+credit-tick : (s : Setup) (σ : System) (k : Demand s σ) (c d : ℕ) → creditBy (s .whole) (σ .clock) c d (k .gone) ≤ creditBy (s .whole) (σ .clock + 1) c d (lasting σ (k .gone)) + weight (departedParts (σ .clock) c (σ .ledger))
+credit-tick s σ k c d =
+    let fall : creditBy (s .whole) (σ .clock) c d (k .gone) ≤ total (λ r. due c d r (credit (s .whole) (σ .clock + 1) r) + cond (eqb (r .core) c && ltb (σ .clock) (lapse r)) (weight (r .parts)) 0) (k .gone) = total-le _ _ (k .gone) (all-weaker (Measured (s .whole)) _ (λ r m. fading (s .whole) (σ .clock) c d r m) (k .gone) (k .measured)) in
+    let parts : departedParts (σ .clock) c (σ .ledger) ≡ total (λ r. cond (eqb (r .core) c && ltb (σ .clock) (lapse r)) (r .parts) 0) (k .gone) = ap (departedParts (σ .clock) c) (k .ledger) ∙ total-map _ entryOf (k .gone) in
+    omega (
+      arith,
+      total-sum (λ r. due c d r (credit (s .whole) (σ .clock + 1) r)) (λ r. cond (eqb (r .core) c && ltb (σ .clock) (lapse r)) (weight (r .parts)) 0) (k .gone),
+      total-weight (λ r. eqb (r .core) c && ltb (σ .clock) (lapse r)) (λ r. r .parts) (k .gone),
+      ap weight parts,
+      total-kept (λ r. due c d r (credit (s .whole) (σ .clock + 1) r)) (λ r. ltb (σ .clock + 1) (lapse r)) (k .gone) (all-weaker (Measured (s .whole)) _ over (k .gone) (k .measured)),
+    )
+  where
+    over : (r : Reservation) → Measured (s .whole) r → ltb (σ .clock + 1) (lapse r) ≡ false → due c d r (credit (s .whole) (σ .clock + 1) r) ≡ 0
+    over r m e = let none = lapsed (s .whole) (σ .clock + 1) r m (ltb-false (σ .clock + 1) (lapse r) e) in grind (arith, tells)
+
+due-charge : (w c d : ℕ) (r : Reservation) (named : Bool) → r .core ≡ c → r .deadline ≤ d → named ≡ true → due c d r (cond named (one w) 0) ≡ one w
+due-charge w c d r named there near e = grind (arith, tells)
+
+module _ (s : Setup) (law : Lawful s) (σ : System) (b : Basic s σ) (out : σ .out ≡ true) (k : Demand s σ) (c d : ℕ) (core : c < length (s .figures)) where
+  -- What is claimed after the tick is covered.
+  abbrev Covered : Type 0
+  Covered = owedBy (s .whole) c d (map (passed σ) (σ .live)) ≤ heldBy (s .whole) (σ .clock + 1) c d (map (passed σ) (σ .live)) + creditBy (s .whole) (σ .clock + 1) c d (lasting σ (k .gone))
+
+  -- Of one reservation: its claim and its share before and after the tick, what it is charged, and what the core counts for it.
+  abbrev claimBefore : Reservation → ℕ
+  claimBefore r = due c d r (owed (s .whole) r)
+
+  abbrev claimAfter : Reservation → ℕ
+  claimAfter r = due c d (passed σ r) (owed (s .whole) (passed σ r))
+
+  abbrev holdBefore : Reservation → ℕ
+  holdBefore r = due c d r (held (s .whole) (σ .clock) r)
+
+  abbrev holdAfter : Reservation → ℕ
+  holdAfter r = due c d (passed σ r) (held (s .whole) (σ .clock + 1) (passed σ r))
+
+  abbrev charge : Reservation → ℕ
+  charge r = due c d r (cond (isNamedOne σ r) (one (s .whole)) 0)
+
+  abbrev heavy : Reservation → ℕ
+  heavy r = cond (eqb (r .core) c) (weight (r .parts)) 0
+
+  found : All (λ r. find (r .number) (σ .live) ≡ Some r) (σ .live)
+  found = each-found 0 (σ .live) (b .ascending)
+
+  -- The one picked is charged a tick.
+  charge-picked : (p : Reservation) → pick c (σ .live) ≡ Some p → p .deadline ≤ d → one (s .whole) ≤ total charge (σ .live)
+  charge-picked p picked near =
+      let ready = pick-ready c (σ .live) p picked in
+      let there : p .core ≡ c = eqb-true (p .core) c (and-parts (isReady (p .state)) (eqb (p .core) c) ready .1) in
+      let name : getD (σ .names) (p .core) None ≡ Some (p .number) = ap (λ ns. getD ns (p .core) None) (b .dealt out) ∙ ap (λ n. getD (picks (length (s .figures)) (σ .live)) n None) there ∙ getD-picks (length (s .figures)) c (σ .live) core ∙ ap (mapped (λ r. r .number)) picked in
+      let named : isNamedOne σ p ≡ true = ap (isName (p .number)) name ∙ eq-eqb (p .number) (p .number) refl in
+      omega (arith, due-charge (s .whole) c d p (isNamedOne σ p) there near named, total-found charge (p .number) p (σ .live) (pick-found c (σ .live) p (b .ascending) picked))
+
+  -- The core is dealt to one due up to d.
+  served-core : (p : Reservation) → pick c (σ .live) ≡ Some p → p .deadline ≤ d → Covered
+  served-core p picked near =
+      let each : total (λ r. claimAfter r + (holdBefore r + charge r)) (σ .live) ≤ total (λ r. claimBefore r + (holdAfter r + heavy r)) (σ .live) = total-le _ _ (σ .live) (all-weaker (λ r. find (r .number) (σ .live) ≡ Some r) _ (spending s law σ b out c d) (σ .live) found) in
+      omega (
+        arith,
+        total-sum claimAfter (λ r. holdBefore r + charge r) (σ .live),
+        total-sum holdBefore charge (σ .live),
+        total-sum claimBefore (λ r. holdAfter r + heavy r) (σ .live),
+        total-sum holdAfter heavy (σ .live),
+        total-weight (λ r. eqb (r .core) c) (λ r. r .parts) (σ .live),
+        total-map (λ r. due c d r (owed (s .whole) r)) (passed σ) (σ .live),
+        total-map (λ r. due c d r (held (s .whole) (σ .clock + 1) r)) (passed σ) (σ .live),
+        charge-picked p picked near,
+        counted-weight s law σ k c,
+        credit-tick s σ k c d,
+        k .covered c d core,
+      )
+
+  -- None that is ready on the core is due up to d.
+  idle-core : ((r : Reservation) → find (r .number) (σ .live) ≡ Some r → isReadyOn c r ≡ true → d < r .deadline) → Covered
+  idle-core later =
+      let each : total claimAfter (σ .live) ≤ total holdAfter (σ .live) = total-le _ _ (σ .live) (all-weaker (λ r. find (r .number) (σ .live) ≡ Some r) _ still (σ .live) found) in
+      omega (
+        arith,
+        total-map (λ r. due c d r (owed (s .whole) r)) (passed σ) (σ .live),
+        total-map (λ r. due c d r (held (s .whole) (σ .clock + 1) r)) (passed σ) (σ .live),
+      )
+    where
+      past-d : (r : Reservation) → find (r .number) (σ .live) ≡ Some r → isReady (chargedIf (σ .names) r .state) ≡ true → chargedIf (σ .names) r .core ≡ c → d < chargedIf (σ .names) r .deadline
+      past-d r there = cond-both (isNamedOne σ r) (charged r) r (λ x. isReady (x .state) ≡ true → x .core ≡ c → d < x .deadline) (λ named _ at. later r there (and-from _ _ (named-ready s σ b out r there named) (eq-eqb (r .core) c at))) (λ _ ready at. later r there (and-from _ _ ready (eq-eqb (r .core) c at)))
+
+      still : (r : Reservation) → find (r .number) (σ .live) ≡ Some r → claimAfter r ≤ holdAfter r
+      still r there = calm (s .whole) (σ .clock) c d (chargedIf (σ .names) r) (measured-charged (s .whole) (σ .names) r (measured-by s law (σ .clock) (σ .given) r (fair-at s σ b (r .number) r there))) (past-d r there)
+
+  covered-tick : Covered
+  covered-tick = go (pick c (σ .live)) refl
+    where
+      go : (o : Option Reservation) → pick c (σ .live) ≡ o → Covered
+      go None e = idle-core λ r found ready. absurd (found-all _ (r .number) (σ .live) r (pick-none c (σ .live) e) found ready)
+      go (Some p) e =
+          ⊎-elim
+          (λ (far : d < p .deadline). idle-core λ r found ready. let first = found-all _ (r .number) (σ .live) r (pick-first c (σ .live) p e) found ready in let sooner : p .deadline ≤ r .deadline = grind (arith, tells) in omega arith)
+          (λ (near : p .deadline ≤ d). served-core p e near)
+          (cases-lt d (p .deadline))
+
+-- The parts that each core counts do not grow.
+counted-tick : (σ : System) (c : ℕ) → counted (ticked σ) c ≤ counted σ c
+counted-tick σ c =
+    omega (
+      arith,
+      total-map (countedFor c) (passed σ) (σ .live),
+      total-le (λ r. countedFor c (passed σ r)) (countedFor c) (σ .live) (all-anyway _ same (σ .live)),
+      total-kept (λ e. cond (eqb (e .core) c && ltb (σ .clock + 1) (e .lapse)) (e .parts) 0) (λ e. ltb (σ .clock + 1) (e .lapse)) (σ .ledger) (all-anyway _ (λ e. gone e) (σ .ledger)),
+      total-le (λ e. cond (eqb (e .core) c && ltb (σ .clock + 1) (e .lapse)) (e .parts) 0) (λ e. cond (eqb (e .core) c && ltb (σ .clock) (e .lapse)) (e .parts) 0) (σ .ledger) (all-anyway _ (λ e. fewer e) (σ .ledger)),
+    )
+  where
+    same : (r : Reservation) → countedFor c (passed σ r) ≤ countedFor c r
+    same r =
+        let charged-same : countedFor c (chargedIf (σ .names) r) ≡ countedFor c r = cond-both (isNamedOne σ r) (charged r) r (λ x. countedFor c x ≡ countedFor c r) (λ _. refl) (λ _. refl) in
+        let all-same : countedFor c (passed σ r) ≡ countedFor c r = cond-both (isDue (σ .clock + 1) (chargedIf (σ .names) r)) _ _ (λ x. countedFor c x ≡ countedFor c r) (λ _. charged-same) (λ _. charged-same) in
+        le-of-eq all-same
+
+    gone : (e : Entry) → ltb (σ .clock + 1) (e .lapse) ≡ false → cond (eqb (e .core) c && ltb (σ .clock + 1) (e .lapse)) (e .parts) 0 ≡ 0
+    gone e h = grind (arith, tells)
+
+    fewer : (e : Entry) → cond (eqb (e .core) c && ltb (σ .clock + 1) (e .lapse)) (e .parts) 0 ≤ cond (eqb (e .core) c && ltb (σ .clock) (e .lapse)) (e .parts) 0
+    fewer e = grind (arith, tells)
+
+pub settled : (s : Setup) → Lawful s → (σ : System) → Basic s σ → σ .out ≡ true → Demand s σ → Demand s (ticked σ)
+settled s law σ b out k = record {
+  gone = lasting σ (k .gone);
+  ledger = ap (kept-by (λ e. ltb (σ .clock + 1) (e .lapse))) (k .ledger) ∙ kept-map _ entryOf (k .gone);
+  measured = all-kept-by _ (Measured (s .whole)) (k .gone) (k .measured);
+  covered = λ c d core. covered-tick s law σ b out k c d core;
+  fits = λ c. omega (arith, k .fits c, counted-tick σ c);
+}

@@ -26,6 +26,10 @@ pub total-le : {X : Type 0} (f g : X → ℕ) (xs : List X) → All (λ x. f x �
 total-le f g [] h = omega arith
 total-le f g (x ∷ xs) (h, hs) = omega (arith, h, total-le f g xs hs)
 
+pub total-none : {X : Type 0} (f : X → ℕ) → ((x : X) → f x ≡ 0) → (xs : List X) → total f xs ≡ 0
+total-none f h [] = refl
+total-none f h (x ∷ xs) = omega (arith, h x, total-none f h xs)
+
 pub total-sum : {X : Type 0} (f g : X → ℕ) (xs : List X) → total (λ x. f x + g x) xs ≡ total f xs + total g xs
 total-sum f g [] = refl
 total-sum f g (x ∷ xs) = omega (arith, total-sum f g xs)

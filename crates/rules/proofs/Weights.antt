@@ -26,10 +26,10 @@ product-divides (suc n) p low high =
     ⊎-elim
     (λ (e : p ≡ suc n). (product n, ap (λ x. product n * x) e))
     (λ (ne : (p < suc n) ⊎ (suc n < p)).
-      ⊎-elim
-      (λ (below : p < suc n). let (k, e) = product-divides n p low (omega arith) in (k * suc n, omega (arith, ap (λ x. x * suc n) e)))
-      (λ (above : suc n < p). absurd (omega arith))
-      ne)
+    ⊎-elim
+    (λ (below : p < suc n). let (k, e) = product-divides n p low (omega arith) in (k * suc n, omega (arith, ap (λ x. x * suc n) e)))
+    (λ (above : suc n < p). absurd (omega arith))
+    ne)
     (cases-order p (suc n))
 
 -- A number that every period divides. Its value is of no interest, and is never computed.
