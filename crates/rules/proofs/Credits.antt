@@ -1,17 +1,15 @@
 -- What a reservation may still claim before its deadline, and what its share gives it by then; and how each call changes the two.
 -- Words: Measured, Kept, gain, owed, credit, held, due.
-use mathlib.Core.Path.{_≡_, refl, sym, ap, subst, _∙_}
-use mathlib.Core.Logic.{_⊎_, inl, inr, ⊎-elim}
-use mathlib.Core.Bool.{Bool, true, false, cond, not, _&&_, _||_}
+use mathlib.Core.Path.{_≡_, refl, ap, _∙_}
+use mathlib.Core.Logic.{⊎-elim}
+use mathlib.Core.Bool.{Bool, true, false, cond, _&&_}
 use Prim.Native.Nat.{ℕ, _+_, _-_, _*_, _/_, _≤_, _<_}
-use native.Mathlib.Nat.{mul-zero, one-le-mul, mul-le-mul-left, mul-le-mul-right, le-div-iff-mul-le}
+use native.Mathlib.Nat.{mul-zero, one-le-mul, mul-le-mul-left, le-div-iff-mul-le}
 use native.Mathlib.Omega.{arith}
 use lib.Dec.{eqb, ltb, leb}
 use Rattle.std.proofs.shelf.Ways.{tells}
 use Rattle.std.proofs.shelf.Tests.{ltb-true, ltb-false, cases-lt}
 use Rattle.rules.specs.declared.types.Reservation.{Reservation}
-use Rattle.rules.specs.declared.types.State.{State}
-use Rattle.rules.specs.declared.types.State.the-variants.{Ready, Spent, Resting}
 use Rattle.rules.specs.Server.{isReady, isSpent, isResting, wanting, served, onCore, filledTo, keeps, woken, rested, charged, isDue, refilled, lapse, isBehind}
 use Rattle.rules.proofs.Weights.{one, one-low, rate, weight, rate-period, rate-weight, ahead, behind}
 

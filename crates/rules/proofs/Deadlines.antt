@@ -1,33 +1,26 @@
 -- In every replay no ready reservation has reached its deadline.
-use mathlib.Core.Path.{_≡_, refl, sym, ap, subst, _∙_}
-use mathlib.Core.Logic.{_⊎_, inl, inr, ⊎-elim}
-use mathlib.Core.Bool.{Bool, true, false, cond}
+use mathlib.Core.Path.{_≡_, refl}
+use mathlib.Core.Logic.{⊎-elim}
+use mathlib.Core.Bool.{true}
 use mathlib.Core.List.{List, [], _∷_}
-use Prim.Native.Nat.{ℕ, _+_, _-_, _*_, _≤_, _<_}
-use native.Mathlib.Nat.{one-le-mul}
+use Prim.Native.Nat.{ℕ, _≤_, _<_}
 use native.Mathlib.Omega.{arith}
-use lib.Dec.{eqb, ltb, leb}
-use lib.ListN.{length}
-use Rattle.std.specs.declared.option.Option.{Option}
-use Rattle.std.specs.declared.option.Option.the-variants.{Some, None}
-use Rattle.std.proofs.shelf.Ways.{tells}
+use Rattle.std.specs.declared.option.Option.the-variants.{Some}
 use Rattle.std.proofs.shelf.Tests.{cases-lt, cond-both}
 use Rattle.rules.specs.declared.types.Reservation.{Reservation}
 use Rattle.rules.specs.declared.types.Call.{Call}
 use Rattle.rules.specs.declared.types.Answer.{Answer}
-use Rattle.rules.specs.Lists.{total, find}
-use Rattle.rules.specs.Setup.{Setup, LawfulMeasure, LawfulPolicy}
+use Rattle.rules.specs.Lists.{find}
+use Rattle.rules.specs.Setup.{Setup}
 use Rattle.rules.specs.System.{System, fresh}
-use Rattle.rules.specs.Parts.{rooms, bounds}
 use Rattle.rules.specs.Server.{isReady, keeps, woken, rested}
 use Rattle.rules.specs.Replay.{next, after, replay}
 use Rattle.rules.specs.Share.{Lawful}
 use Rattle.rules.proofs.Steps.{Step, admits, wakes, rests, leaves, moves, deals, settles, by-step}
-use Rattle.rules.proofs.Basics.{Fair, Basic, fair-at, basic-next, basic}
-use Rattle.rules.proofs.Weights.{one, one-low}
+use Rattle.rules.proofs.Basics.{Basic, fair-at, basic-next, basic}
 use Rattle.rules.proofs.Totals.{total-found, total-none}
-use Rattle.rules.proofs.Credits.{Measured, Stocked, owed, held, credit, due, none-due, claiming, waking, resting}
-use Rattle.rules.proofs.Demand.{Demand, owedBy, heldBy, creditBy, countedFor, measured-by, stocked-by, changed, left, moved, came, room-named}
+use Rattle.rules.proofs.Credits.{owed, held, credit, due, none-due, claiming, waking, resting}
+use Rattle.rules.proofs.Demand.{Demand, countedFor, measured-by, stocked-by, changed, left, moved, came, room-named}
 use Rattle.rules.proofs.Ticking.{settled}
 
 -- Every step keeps the claims covered.

@@ -1,34 +1,30 @@
 -- On every core, up to every tick, what the reservations may claim is covered by what their shares give them, and each core
 -- counts at most its bound; every call keeps this.
-use mathlib.Core.Path.{_≡_, refl, sym, ap, subst, _∙_}
-use mathlib.Core.Logic.{_⊎_, inl, inr, ⊎-elim}
-use mathlib.Core.Bool.{Bool, true, false, cond, _&&_}
-use mathlib.Core.List.{List, [], _∷_, _++_, map}
-use Prim.Native.Nat.{ℕ, suc, _+_, _-_, _*_, _/_, _≤_, _<_}
+use mathlib.Core.Path.{_≡_, ap, subst, _∙_}
+use mathlib.Core.Logic.{⊎-elim}
+use mathlib.Core.Bool.{false, cond}
+use mathlib.Core.List.{List, [], _∷_, map}
+use Prim.Native.Nat.{ℕ, suc, _+_, _-_, _≤_, _<_}
 use native.Mathlib.Nat.{zero-add}
 use native.Mathlib.Omega.{arith}
-use lib.Dec.{eqb, ltb, leb}
+use lib.Dec.{eqb}
 use lib.ListN.{length, getD}
 use Rattle.std.specs.shelf.Lists.{All}
-use Rattle.std.specs.declared.option.Option.{Option}
-use Rattle.std.specs.declared.option.Option.the-variants.{Some, None}
+use Rattle.std.specs.declared.option.Option.the-variants.{Some}
 use Rattle.std.proofs.shelf.Ways.{tells}
 use Rattle.std.proofs.shelf.Tests.{ltb-false, cases-eq, cond-both}
 use Rattle.rules.specs.declared.types.Reservation.{Reservation}
 use Rattle.rules.specs.declared.types.Entry.{Entry}
-use Rattle.rules.specs.declared.types.Call.{Call}
-use Rattle.rules.specs.declared.types.Answer.{Answer}
 use Rattle.rules.specs.Lists.{total, find, change, without}
-use Rattle.rules.specs.Setup.{Setup, LawfulMeasure, LawfulPolicy}
-use Rattle.rules.specs.System.{System, fresh, with-live, with-both}
-use Rattle.rules.specs.Parts.{liveParts, departedParts, counted, bound, bounds, room, rooms, roomsFrom}
-use Rattle.rules.specs.Server.{isResting, isBehind, onCore, woken, rested, keeps, lapse, entryOf}
+use Rattle.rules.specs.Setup.{Setup}
+use Rattle.rules.specs.System.{System, with-live, with-both}
+use Rattle.rules.specs.Parts.{departedParts, counted, bound, bounds, room, rooms, roomsFrom}
+use Rattle.rules.specs.Server.{isBehind, onCore, lapse, entryOf}
 use Rattle.rules.specs.Calls.{admitted, with-newcomer, entryDue, ledgerAfter}
 use Rattle.rules.specs.Share.{Lawful}
-use Rattle.rules.proofs.Steps.{Step, admits, wakes, rests, leaves, moves, deals, settles}
-use Rattle.rules.proofs.Basics.{Fair, Basic, fair-at, limited}
+use Rattle.rules.proofs.Basics.{Fair, limited}
 use Rattle.rules.proofs.Totals.{total-push, total-change, total-without}
-use Rattle.rules.proofs.Credits.{Measured, Stocked, owed, held, credit, due, lapsed, waking, resting, leaving, moving}
+use Rattle.rules.proofs.Credits.{Measured, Stocked, owed, held, credit, due, lapsed, leaving, moving}
 
 -- What the reservations on core c with deadlines up to d may claim.
 abbrev pub owedBy : ℕ → ℕ → ℕ → List Reservation → ℕ

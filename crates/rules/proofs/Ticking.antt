@@ -1,13 +1,13 @@
 -- A settle keeps the claims covered: on a core that is dealt to one due up to d, the claims fall by one tick and the shares by at
 -- most what the core counts; on a core with none ready that is due up to d, the claims after the tick are those just filled.
 use mathlib.Core.Path.{_≡_, refl, sym, ap, subst, _∙_}
-use mathlib.Core.Logic.{_⊎_, inl, inr, ⊎-elim}
+use mathlib.Core.Logic.{⊎-elim}
 use mathlib.Core.Bool.{Bool, true, false, cond, _&&_}
 use mathlib.Core.List.{List, [], _∷_, map}
-use Prim.Native.Nat.{ℕ, suc, _+_, _-_, _*_, _/_, _≤_, _<_}
+use Prim.Native.Nat.{ℕ, suc, _+_, _*_, _/_, _≤_, _<_}
 use native.Mathlib.Nat.{le-of-eq, mul-le-mul-left}
 use native.Mathlib.Omega.{arith}
-use lib.Dec.{eqb, ltb, leb}
+use lib.Dec.{eqb, ltb}
 use lib.ListN.{length, getD}
 use Rattle.std.specs.Options.{mapped}
 use Rattle.std.specs.shelf.Lists.{All, kept-by}
@@ -21,17 +21,17 @@ use Rattle.rules.specs.declared.types.Entry.{Entry}
 use Rattle.rules.specs.Lists.{total, find}
 use Rattle.rules.specs.Setup.{Setup, figuresFit, making}
 use Rattle.rules.specs.System.{System}
-use Rattle.rules.specs.Parts.{liveParts, departedParts, counted, bound, bounds}
-use Rattle.rules.specs.Server.{isReady, isName, charged, chargedIf, isDue, refilled, filledTo, lapse, entryOf}
-use Rattle.rules.specs.Dealing.{isReadyOn, goesFirst, pick, picks}
+use Rattle.rules.specs.Parts.{liveParts, departedParts, counted, bound}
+use Rattle.rules.specs.Server.{isReady, isName, charged, chargedIf, isDue, refilled, lapse, entryOf}
+use Rattle.rules.specs.Dealing.{isReadyOn, pick, picks}
 use Rattle.rules.specs.Calls.{ticked}
 use Rattle.rules.specs.Share.{Lawful}
-use Rattle.rules.proofs.Finding.{some-same, none-some, found-all, each-found}
-use Rattle.rules.proofs.Basics.{Fair, Basic, fair-at}
+use Rattle.rules.proofs.Finding.{some-same, found-all, each-found}
+use Rattle.rules.proofs.Basics.{Basic, fair-at}
 use Rattle.rules.proofs.Picking.{pick-found, pick-ready, pick-first, pick-none, getD-picks, name-found}
 use Rattle.rules.proofs.Weights.{one, weight, weight-whole, weight-sum}
 use Rattle.rules.proofs.Totals.{total-map, total-le, total-sum, total-kept, total-found, all-anyway, kept-map, total-weight}
-use Rattle.rules.proofs.Credits.{Measured, Stocked, owed, held, credit, due, lapsed, passing, charging, calm, fading}
+use Rattle.rules.proofs.Credits.{Measured, owed, held, credit, due, lapsed, passing, charging, calm, fading}
 use Rattle.rules.proofs.Demand.{Demand, owedBy, heldBy, creditBy, countedFor, measured-by, stocked-by}
 
 -- A bound is at most the whole.

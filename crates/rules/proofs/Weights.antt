@@ -1,10 +1,10 @@
 -- Shares as whole numbers. Everything is counted in units so small that every reservation gains a whole number of them at each tick:
 -- one tick of a core is `one`, a reservation gains `rate` at each tick, and its core counts `weight` for it.
 -- Words: scale, one, rate, weight.
-use mathlib.Core.Path.{_≡_, refl, sym, ap, subst, _∙_}
-use mathlib.Core.Logic.{_⊎_, inl, inr, ⊎-elim}
-use Prim.Native.Nat.{ℕ, suc, _+_, _-_, _*_, _/_, _≤_, _<_}
-use native.Mathlib.Nat.{mul-le-mul-left, mul-le-mul-right, le-of-mul-le-mul-right, one-le-mul, mul-comm, mul-assoc, mul-left-comm, mul-div-cancel, div-mul-le-self}
+use mathlib.Core.Path.{_≡_, sym, ap, _∙_}
+use mathlib.Core.Logic.{_⊎_, ⊎-elim}
+use Prim.Native.Nat.{ℕ, suc, _+_, _*_, _/_, _≤_, _<_}
+use native.Mathlib.Nat.{mul-le-mul-left, mul-le-mul-right, le-of-mul-le-mul-right, one-le-mul, mul-div-cancel}
 use native.Mathlib.Omega.{arith}
 use Rattle.std.proofs.shelf.Tests.{cases-order}
 
