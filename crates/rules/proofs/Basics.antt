@@ -19,7 +19,7 @@ use Rattle.rules.specs.declared.types.Entry.{Entry}
 use Rattle.rules.specs.declared.types.Call.{Call}
 use Rattle.rules.specs.declared.types.Answer.{Answer}
 use Rattle.rules.specs.Lists.{find, change, without}
-use Rattle.rules.specs.Setup.{Setup, LawfulMeasure, LawfulPolicy}
+use Rattle.rules.specs.Setup.{Setup}
 use Rattle.rules.specs.System.{System, fresh}
 use Rattle.rules.specs.Parts.{bounds, rooms, roomsFrom, counted}
 use Rattle.rules.specs.Server.{isReady, isSpent, wanting, served, onCore, filledTo, keeps, woken, rested, charged, chargedIf, isName, isDue, refilled, lapse, entryOf}
