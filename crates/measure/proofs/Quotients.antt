@@ -9,16 +9,21 @@ use Rattle.terms.specs.Limits.{inLimits}
 use Rattle.terms.proofs.Limits.{budget-low, budget-high}
 use Rattle.measure.specs.Meanings.{roundedWhole, quotientUp}
 
-module _ (budget period : ℕ) (low : 1 ≤ budget) (high : budget ≤ period) where
+module _ (budget period : ℕ) (within : inLimits budget period ≡ true) where
+  some : 0 < period
+  some = omega (arith, budget-low budget period within, budget-high budget period within)
+
   pub up-covers : budget * roundedWhole ≤ quotientUp (budget * roundedWhole) period * period
-  up-covers =
-      let some : 0 < period = omega arith in
-      omega (arith, lt-div-mul-add {a = budget * roundedWhole + (period - 1)} some)
+  up-covers = omega (arith, some, lt-div-mul-add {a = budget * roundedWhole + (period - 1)} some)
 
   pub up-low : 1 ≤ quotientUp (budget * roundedWhole) period
-  up-low = le-div 1 (budget * roundedWhole + (period - 1)) period (omega arith) (omega arith)
+  up-low =
+      le-div 1 (budget * roundedWhole + (period - 1)) period some
+      (omega (arith, budget-low budget period within))
 
   pub up-high : quotientUp (budget * roundedWhole) period ≤ roundedWhole
   up-high =
-      let below = div-below (budget * roundedWhole + (period - 1)) period (roundedWhole + 1) (omega arith) (omega arith) in
-      omega arith
+      let below =
+      div-below (budget * roundedWhole + (period - 1)) period (roundedWhole + 1) some
+      (omega (arith, some, budget-high budget period within))
+      in omega arith

@@ -4,8 +4,6 @@ ghost use Rattle.measure.specs.Meanings.{catalogueWhole, catalogue, priced};
 use crate::Measure;
 use terms::Terms;
 
-const WHOLE: u32 = 1_000;
-
 // Budget, period and parts.
 type Row = (u32, u32, u32);
 
@@ -31,7 +29,7 @@ pub impl Measure for Catalogue as CatalogueMeasure {
     ghost price = { λ _. catalogue };
 
     fn whole(&self) -> u32 {
-        WHOLE
+        1_000
     }
 
     fn parts(&self, terms: Terms) -> Option<u32> {

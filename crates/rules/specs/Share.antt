@@ -18,7 +18,9 @@ use Rattle.rules.specs.declared.types.Call.the-variants.{Admit, Wake, Rest, Le
 use Rattle.rules.specs.declared.types.Answer.{Answer}
 use Rattle.rules.specs.declared.types.Answer.the-variants.{Refused}
 use Rattle.rules.specs.Lists.{find}
-use Rattle.rules.specs.Setup.{Setup, LawfulMeasure, LawfulPolicy, making}
+use Rattle.measure.specs.Laws.{Lawful as LawfulMeasure}
+use Rattle.policy.specs.Laws.{Lawful as LawfulPolicy}
+use Rattle.rules.specs.Setup.{Setup, making}
 use Rattle.rules.specs.System.{System, fresh, liveLimit, lastNumber}
 use Rattle.rules.specs.Parts.{bound, counted}
 use Rattle.rules.specs.Server.{keeps, chargedIf, isDue, isName}
@@ -124,3 +126,7 @@ pub record Lawful (s : Setup) : Type 0 where
 -- The share law holds of every such engine.
 abbrev pub Shares : Type 0
 Shares = (s : Setup) → Lawful s → ShareLaw s
+
+-- Where the making of an engine from these is accepted, the share law holds of it.
+abbrev pub MadeShares : Setup → Type 0
+MadeShares s = making (s .figures) (s .start) ≡ None → ShareLaw s

@@ -1,7 +1,9 @@
 // The rules of the engine as one model: its plain types are here, its definitions in specs/.
+mod making;
 mod order;
 mod types;
 
+pub use making::making_refusal;
 pub use order::EntryOrder;
 pub use types::Answer;
 pub use types::AnswerDebug;

@@ -2,7 +2,6 @@ use mathlib.Core.Path.{_≡_, subst}
 use Prim.Native.Nat.{ℕ, _*_, _≤_}
 use native.Mathlib.Omega.{arith}
 use lib.Dec.{lit≤}
-use Rattle.terms.proofs.Limits.{budget-low, budget-high}
 use Rattle.measure.specs.Meanings.{roundedWhole, quotientUp}
 use Rattle.measure.proofs.Quotients.{up-covers, up-low, up-high}
 use Rattle.measure.proofs.rounding.RoundedMeasure.the-impl.Needs as need
@@ -14,11 +13,11 @@ lawful-law x =
       whole-high = lit≤ tt;
       covers = λ budget period parts within taken.
           let is : quotientUp (budget * roundedWhole) period ≡ parts = cc in
-          subst (λ (n : ℕ). budget * roundedWhole ≤ n * period) is (up-covers budget period (budget-low budget period within) (budget-high budget period within));
+          subst (λ (n : ℕ). budget * roundedWhole ≤ n * period) is (up-covers budget period within);
       low = λ budget period parts within taken.
           let is : quotientUp (budget * roundedWhole) period ≡ parts = cc in
-          omega (arith, up-low budget period (budget-low budget period within) (budget-high budget period within));
+          omega (arith, up-low budget period within);
       high = λ budget period parts within taken.
           let is : quotientUp (budget * roundedWhole) period ≡ parts = cc in
-          omega (arith, up-high budget period (budget-low budget period within) (budget-high budget period within));
+          omega (arith, up-high budget period within);
     }
