@@ -5,7 +5,7 @@ use mathlib.Core.List.{List, [], _∷_}
 use Prim.Native.Nat.{ℕ, zero, suc, _≤_, _<_}
 use native.Mathlib.Nat.{le-of-suc-le-suc, not-suc-le-zero}
 use native.Mathlib.Omega.{arith}
-use lib.Dec.{leb, ltb}
+use lib.Dec.{leb}
 use lib.ListN.{length, getD}
 use Rattle.std.proofs.shelf.Ways.{tells}
 use Rattle.std.specs.declared.option.Option.{Option}
@@ -33,7 +33,7 @@ chain Worst x y z h k = grind (arith, tells)
 chain Best x y z h k = grind (arith, tells)
 
 -- ---- what stands of the core that is named
-pub record Best-of (fit : Fit) (rooms : List ℕ) (parts core : ℕ) : Type 0 where
+pub record Preferred (fit : Fit) (rooms : List ℕ) (parts core : ℕ) : Type 0 where
   pub exists : core < length rooms
   pub room : parts ≤ getD rooms core 0
   pub unbeaten : (other : ℕ) → other < length rooms → parts ≤ getD rooms other 0 → beats fit (getD rooms other 0) (getD rooms core 0) ≡ false
@@ -41,7 +41,7 @@ pub record Best-of (fit : Fit) (rooms : List ℕ) (parts core : ℕ) : Type 0 wh
 
 abbrev pub Stands : Fit → List ℕ → ℕ → Option ℕ → Type 0
 Stands fit rooms parts None = Short rooms parts
-Stands fit rooms parts (Some core) = Best-of fit rooms parts core
+Stands fit rooms parts (Some core) = Preferred fit rooms parts core
 
 module _ (fit : Fit) (parts room : ℕ) (above : List ℕ) where
   still-short : room < parts → Short above parts → Short (room ∷ above) parts
@@ -52,18 +52,18 @@ module _ (fit : Fit) (parts room : ℕ) (above : List ℕ) where
   alone short zero h suffices = never-itself fit room
   alone short (suc k) h suffices = let low = short k (le-of-suc-le-suc h) in absurd (omega arith)
 
-  over : (core : ℕ) → Best-of fit above parts core → beats fit (getD above core 0) room ≡ false
+  over : (core : ℕ) → Preferred fit above parts core → beats fit (getD above core 0) room ≡ false
       → (other : ℕ) → other < suc (length above) → parts ≤ getD (room ∷ above) other 0 → beats fit (getD (room ∷ above) other 0) room ≡ false
   over core best free zero h suffices = never-itself fit room
   over core best free (suc k) h suffices =
       chain fit (getD above k 0) (getD above core 0) room (best .unbeaten k (le-of-suc-le-suc h) suffices) free
 
-  under : (core : ℕ) → Best-of fit above parts core → (parts ≤ room → beats fit (getD above core 0) room ≡ true)
+  under : (core : ℕ) → Preferred fit above parts core → (parts ≤ room → beats fit (getD above core 0) room ≡ true)
       → (other : ℕ) → other < suc (length above) → parts ≤ getD (room ∷ above) other 0 → beats fit (getD (room ∷ above) other 0) (getD above core 0) ≡ false
   under core best beaten zero h suffices = one-way fit (getD above core 0) room (beaten suffices)
   under core best beaten (suc k) h suffices = best .unbeaten k (le-of-suc-le-suc h) suffices
 
-  before : (core : ℕ) → Best-of fit above parts core → (parts ≤ room → beats fit (getD above core 0) room ≡ true)
+  before : (core : ℕ) → Preferred fit above parts core → (parts ≤ room → beats fit (getD above core 0) room ≡ true)
       → (other : ℕ) → other < suc core → parts ≤ getD (room ∷ above) other 0 → beats fit (getD above core 0) (getD (room ∷ above) other 0) ≡ true
   before core best beaten zero h suffices = beaten suffices
   before core best beaten (suc k) h suffices = best .tie k (le-of-suc-le-suc h) suffices
@@ -77,7 +77,7 @@ module _ (fit : Fit) (parts room : ℕ) (above : List ℕ) where
   }
   after-none false e short = still-short (grind (arith, tells)) short
 
-  after-some : (core : ℕ) (b : Bool) → b ≡ (leb parts room && not (beats fit (getD above core 0) room)) → Best-of fit above parts core
+  after-some : (core : ℕ) (b : Bool) → b ≡ (leb parts room && not (beats fit (getD above core 0) room)) → Preferred fit above parts core
       → Stands fit (room ∷ above) parts (cond b (Some 0) (Some (suc core)))
   after-some core true e best = record {
     exists = omega arith;

@@ -1,7 +1,7 @@
 -- One more core in the walk from the highest core down.
 use mathlib.Core.Path.{_≡_, refl, sym, ap, _∙_}
 use mathlib.Core.Bool.{Bool, true, false, cond, not, _&&_}
-use mathlib.Core.List.{List, [], _∷_}
+use mathlib.Core.List.{List}
 use Prim.Native.Nat.{ℕ, suc, _+_, _-_, _≤_, _<_}
 use native.Mathlib.Omega.{arith}
 use lib.Dec.{leb}
@@ -13,7 +13,7 @@ use Rattle.std.specs.Options.{mapped}
 use Rattle.std.specs.Slices.{found}
 use Rattle.std.specs.declared.option.Option.{Option}
 use Rattle.std.specs.declared.option.Option.the-variants.{None, Some}
-use Rattle.policy.specs.Choices.{beats, beaten, lowest, chosen}
+use Rattle.policy.specs.Choices.{beaten, lowest, chosen}
 use Rattle.policy.specs.declared.fits.Fit.{Fit}
 use Rattle.policy.proofs.Chosen.{Stands, stands}
 
