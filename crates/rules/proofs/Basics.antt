@@ -1,30 +1,29 @@
 -- The plain invariant of every replay: what each live reservation keeps, the order of the numbers, the names and the ledger.
-use mathlib.Core.Path.{_≡_, refl, sym, ap, _∙_, subst}
+use mathlib.Core.Path.{_≡_, refl, ap, _∙_, subst}
 use mathlib.Core.Bool.{Bool, true, false, cond}
-use mathlib.Core.List.{List, [], _∷_, _++_, map}
-use Prim.Native.Nat.{ℕ, zero, suc, _+_, _-_, _*_, _/_, _≤_, _<_}
+use mathlib.Core.List.{List, [], _∷_}
+use Prim.Native.Nat.{ℕ, suc, _+_, _-_, _*_, _/_, _≤_, _<_}
 use native.Mathlib.Omega.{arith}
-use lib.Dec.{eqb, ltb, leb}
+use lib.Dec.{eqb, ltb}
 use lib.ListN.{length, length-map, getD}
 use Rattle.std.specs.declared.option.Option.{Option}
 use Rattle.std.specs.declared.option.Option.the-variants.{Some, None}
-use Rattle.std.specs.shelf.Lists.{All, kept-by}
+use Rattle.std.specs.shelf.Lists.{All}
 use Rattle.std.proofs.shelf.Tests.{both-ways, ltb-true, leb-true, eqb-true, eqb-false, and-parts, cond-both}
 use Rattle.std.proofs.shelf.Elements.{all-weaker, all-push, all-map, kept-by-passes}
 use Rattle.terms.specs.Limits.{inLimits}
 use Rattle.rules.specs.declared.types.Reservation.{Reservation}
 use Rattle.rules.specs.declared.types.State.{State}
 use Rattle.rules.specs.declared.types.State.the-variants.{Ready, Spent, Resting}
-use Rattle.rules.specs.declared.types.Entry.{Entry}
 use Rattle.rules.specs.declared.types.Call.{Call}
 use Rattle.rules.specs.declared.types.Answer.{Answer}
-use Rattle.rules.specs.Lists.{find, change, without}
+use Rattle.rules.specs.Lists.{find}
 use Rattle.rules.specs.Setup.{Setup}
 use Rattle.rules.specs.System.{System, fresh}
-use Rattle.rules.specs.Parts.{bounds, rooms, roomsFrom, counted}
-use Rattle.rules.specs.Server.{isReady, isSpent, wanting, served, onCore, filledTo, keeps, woken, rested, charged, chargedIf, isName, isDue, refilled, lapse, entryOf}
+use Rattle.rules.specs.Parts.{bounds, rooms, roomsFrom}
+use Rattle.rules.specs.Server.{isReady, isSpent, wanting, served, onCore, filledTo, keeps, woken, rested, charged, chargedIf, isName, isDue, refilled, lapse}
 use Rattle.rules.specs.Dealing.{picks}
-use Rattle.rules.specs.Calls.{admitted, entryDue, ledgerAfter, ticked}
+use Rattle.rules.specs.Calls.{admitted, entryDue, ledgerAfter}
 use Rattle.rules.specs.Replay.{next, after, replay}
 use Rattle.rules.specs.Share.{Lawful}
 use Rattle.rules.proofs.Steps.{Step, admits, wakes, rests, leaves, moves, deals, settles, by-step}
@@ -69,7 +68,7 @@ length-roomsFrom : (σ : System) (c : ℕ) (bs : List ℕ) → length (roomsFrom
 length-roomsFrom σ c [] = refl
 length-roomsFrom σ c (b ∷ bs) = ap suc (length-roomsFrom σ (suc c) bs)
 
-pub length-bounds : (s : Setup) → length (bounds s) ≡ length (s .figures)
+length-bounds : (s : Setup) → length (bounds s) ≡ length (s .figures)
 length-bounds s = length-map (s .figures) (λ b. s .whole * b / 1000)
 
 -- There is a room for each core.
@@ -113,7 +112,7 @@ module _ (s : Setup) (t g : ℕ) (r : Reservation) (f : Fair s t g r) where
   fair-run false = f
 
 fair-refilled : (s : Setup) (t g : ℕ) (r : Reservation) → Fair s t g r → Fair s (t + 1) g (refilled (t + 1) r)
-fair-refilled s t g r f = cond-both (isDue (t + 1) r) _ _ (Fair s (t + 1) g) (λ e. let d : r .deadline ≡ t + 1 = eqb-true (r .deadline) (t + 1) (and-parts _ _ e .1) in fair-filled s t g r f (t + 1) (r .deadline + r .period) (omega arith)) (λ _. fair-later s t g r f (t + 1) g (omega arith) (omega arith))
+fair-refilled s t g r f = cond-both (isDue (t + 1) r) _ _ (Fair s (t + 1) g) (λ e. let d : r .deadline ≡ t + 1 = eqb-true (r .deadline) (t + 1) (and-parts (isSpent (r .state)) (eqb (r .deadline) (t + 1)) e .1) in fair-filled s t g r f (t + 1) (r .deadline + r .period) (omega arith)) (λ _. fair-later s t g r f (t + 1) g (omega arith) (omega arith))
 
 -- Charged and filled, a reservation keeps its number.
 pub ticked-number : (names : List (Option ℕ)) (t : ℕ) (r : Reservation) → refilled t (chargedIf names r) .number ≡ r .number

@@ -1,5 +1,5 @@
 -- The clock is the start and the ticks; a record's ticks run are the runs of its number.
-use mathlib.Core.Path.{_≡_, refl, sym, ap, _∙_, subst}
+use mathlib.Core.Path.{_≡_, refl, sym, ap, _∙_}
 use mathlib.Core.Bool.{Bool, true, false, cond, _&&_}
 use mathlib.Core.List.{List, [], _∷_}
 use Prim.Native.Nat.{ℕ, _+_, _≤_, _<_}
@@ -19,7 +19,7 @@ use Rattle.rules.specs.Share.{isSettle, isNamed, ticks, runs, Lawful}
 use Rattle.rules.proofs.Steps.{Step, admits, wakes, rests, leaves, moves, deals, settles, by-step}
 use Rattle.rules.proofs.Finding.{none-some, some-same, found-above}
 use Rattle.rules.proofs.Basics.{Basic, basic, basic-next}
-use Rattle.rules.proofs.Turns.{Turn, kept, woke, stopped, went, moved, passed, turn, by-turn, turn-gone}
+use Rattle.rules.proofs.Turns.{Turn, turn, by-turn, turn-gone}
 use Rattle.rules.proofs.Absences.{Absence, absent, born, absence, gone-after}
 
 clock-step : (s : Setup) (σ : System) (c : Call) (a : Answer) (σ′ : System) → Step s σ c a σ′ → σ′ .clock ≡ σ .clock + cond (isSettle c && true) 1 0

@@ -18,9 +18,10 @@ use Rattle.rules.specs.Replay.{next, after, replay}
 use Rattle.rules.specs.Share.{Lawful}
 use Rattle.rules.proofs.Steps.{Step, admits, wakes, rests, leaves, moves, deals, settles, by-step}
 use Rattle.rules.proofs.Basics.{Basic, fair-at, basic-next, basic}
+use Rattle.rules.proofs.Rooms.{room-named}
 use Rattle.rules.proofs.Totals.{total-found, total-none}
 use Rattle.rules.proofs.Credits.{owed, held, credit, due, none-due, claiming, waking, resting}
-use Rattle.rules.proofs.Demand.{Demand, countedFor, measured-by, stocked-by, changed, left, moved, came, room-named}
+use Rattle.rules.proofs.Demand.{Demand, countedFor, measured-by, stocked-by, changed, left, moved, came}
 use Rattle.rules.proofs.Ticking.{settled}
 
 -- Every step keeps the claims covered.

@@ -11,7 +11,6 @@ use Rattle.std.proofs.shelf.Tests.{both-ways}
 use Rattle.rules.specs.declared.types.Reservation.{Reservation}
 use Rattle.rules.specs.declared.types.Call.the-variants.{Deal}
 use Rattle.rules.specs.declared.types.Answer.{Answer}
-use Rattle.rules.specs.Lists.{find}
 use Rattle.rules.specs.Setup.{Setup}
 use Rattle.rules.specs.System.{System}
 use Rattle.rules.specs.Dealing.{isReadyOn, goesFirst, pick, picks}

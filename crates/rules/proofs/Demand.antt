@@ -1,14 +1,13 @@
 -- On every core, up to every tick, what the reservations may claim is covered by what their shares give them, and each core
 -- counts at most its bound; every call keeps this.
-use mathlib.Core.Path.{_≡_, ap, subst, _∙_}
+use mathlib.Core.Path.{_≡_, ap, subst}
 use mathlib.Core.Logic.{⊎-elim}
 use mathlib.Core.Bool.{false, cond}
-use mathlib.Core.List.{List, [], _∷_, map}
-use Prim.Native.Nat.{ℕ, suc, _+_, _-_, _≤_, _<_}
-use native.Mathlib.Nat.{zero-add}
+use mathlib.Core.List.{List, _∷_, map}
+use Prim.Native.Nat.{ℕ, _+_, _≤_, _<_}
 use native.Mathlib.Omega.{arith}
 use lib.Dec.{eqb}
-use lib.ListN.{length, getD}
+use lib.ListN.{length}
 use Rattle.std.specs.shelf.Lists.{All}
 use Rattle.std.specs.declared.option.Option.the-variants.{Some}
 use Rattle.std.proofs.shelf.Ways.{tells}
@@ -18,7 +17,7 @@ use Rattle.rules.specs.declared.types.Entry.{Entry}
 use Rattle.rules.specs.Lists.{total, find, change, without}
 use Rattle.rules.specs.Setup.{Setup}
 use Rattle.rules.specs.System.{System, with-live, with-both}
-use Rattle.rules.specs.Parts.{departedParts, counted, bound, bounds, room, rooms, roomsFrom}
+use Rattle.rules.specs.Parts.{departedParts, counted, bound, room}
 use Rattle.rules.specs.Server.{isBehind, onCore, lapse, entryOf}
 use Rattle.rules.specs.Calls.{admitted, with-newcomer, entryDue, ledgerAfter}
 use Rattle.rules.specs.Share.{Lawful}
@@ -150,19 +149,6 @@ moved s σ k n core r live m q other ahead place =
       );
       fits = λ c. let here = newcomer s σ k (onCore r core) place c in omega (arith, here, away .counts c, total-change (countedFor c) n r (onCore r core) (σ .live) live);
     }
-
--- The room that a core is named by in the list of all rooms.
-room-at : (σ : System) (k : ℕ) (bs : List ℕ) (c : ℕ) → getD (roomsFrom σ k bs) c 0 ≡ getD bs c 0 - counted σ (k + c)
-room-at σ k [] c = omega arith
-room-at σ k (b ∷ bs) ℕ.zero = ap (λ (x : ℕ). b - counted σ x) (omega arith)
-room-at σ k (b ∷ bs) (suc c) = room-at σ (suc k) bs c ∙ ap (λ (x : ℕ). getD bs c 0 - counted σ x) (omega arith)
-
--- A core that the policy names has room for the parts sought.
-pub room-named : (s : Setup) → Lawful s → (σ : System) (parts core : ℕ) → s .choice (rooms s σ) parts ≡ Some core → parts ≤ room s σ core
-room-named s law σ parts core chosen =
-    let here = law .policy .room (rooms s σ) parts core chosen in
-    let same : getD (rooms s σ) core 0 ≡ room s σ core = room-at σ 0 (bounds s) core ∙ ap (λ (x : ℕ). bound s core - counted σ x) (zero-add core) in
-    omega arith
 
 -- One just admitted claims nothing.
 arriving : (w c d : ℕ) (σ : System) (q p parts core : ℕ) → due c d (admitted σ q p parts core) (owed w (admitted σ q p parts core)) ≡ 0

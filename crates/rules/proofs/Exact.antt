@@ -1,14 +1,13 @@
 -- Filled, and neither rested nor gone before its deadline, a reservation runs exactly its budget by then.
-use mathlib.Core.Path.{_≡_, refl, sym, ap, _∙_, subst}
+use mathlib.Core.Path.{_≡_, refl, ap, _∙_, subst}
 use mathlib.Core.Logic.{_⊎_, inl, inr}
-use mathlib.Core.Bool.{Bool, true, false, cond, _&&_}
+use mathlib.Core.Bool.{Bool, true, false, cond}
 use mathlib.Core.List.{List, [], _∷_, _++_}
-use Prim.Native.Nat.{ℕ, zero, suc, _+_, _-_, _≤_, _<_}
+use Prim.Native.Nat.{ℕ, _+_, _-_, _≤_, _<_}
 use native.Mathlib.Omega.{arith}
 use lib.Dec.{eqb}
-use Rattle.std.specs.declared.option.Option.{Option}
-use Rattle.std.specs.declared.option.Option.the-variants.{Some, None}
-use Rattle.std.proofs.shelf.Tests.{both-ways, eqb-true, ne-eqb, and-parts, and-right, and-left, cond-false, cases-lt}
+use Rattle.std.specs.declared.option.Option.the-variants.{Some}
+use Rattle.std.proofs.shelf.Tests.{both-ways, ne-eqb, and-right, and-left, cond-false, cases-lt}
 use Rattle.rules.specs.declared.types.Reservation.{Reservation}
 use Rattle.rules.specs.declared.types.State.{State}
 use Rattle.rules.specs.declared.types.State.the-variants.{Ready, Spent, Resting}
@@ -17,10 +16,9 @@ use Rattle.rules.specs.Lists.{find}
 use Rattle.rules.specs.Setup.{Setup}
 use Rattle.rules.specs.System.{System, fresh}
 use Rattle.rules.specs.Server.{isReady, isSpent, isResting, wanting, onCore, charged, isDue, refilled}
-use Rattle.rules.specs.Replay.{next, accepts, after, replay}
-use Rattle.rules.specs.Share.{isSettle, stops, isNamed, ticks, runs, Stays, Filling, since, Lawful}
-use Rattle.rules.proofs.Finding.{some-same}
-use Rattle.rules.proofs.Basics.{Basic, Fair, Limited, limited, fair-at, fair-run, basic, basic-next}
+use Rattle.rules.specs.Replay.{next, after, replay}
+use Rattle.rules.specs.Share.{ticks, runs, Stays, Filling, since, Lawful}
+use Rattle.rules.proofs.Basics.{Basic, Fair, limited, fair-at, fair-run, basic, basic-next}
 use Rattle.rules.proofs.Turns.{Turn, kept, woke, stopped, went, moved, passed, turn}
 use Rattle.rules.proofs.Counts.{runs-le-ticks}
 use Rattle.rules.proofs.Fillings.{Filled, filled-since}

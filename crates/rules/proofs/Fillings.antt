@@ -1,27 +1,26 @@
 -- A reservation just filled: its whole budget is left, and its deadline is a period ahead.
 use mathlib.Core.Path.{_≡_, refl, sym, ap, _∙_, subst}
-use mathlib.Core.Bool.{Bool, true, false, cond, not, _&&_}
+use mathlib.Core.Bool.{true, false, not}
 use mathlib.Core.List.{List}
-use Prim.Native.Nat.{ℕ, _+_, _≤_, _<_}
+use Prim.Native.Nat.{ℕ, _+_}
 use native.Mathlib.Omega.{arith}
 use lib.Dec.{eqb}
 use Rattle.std.specs.Options.{mapped}
 use Rattle.std.specs.declared.option.Option.{Option}
-use Rattle.std.specs.declared.option.Option.the-variants.{Some, None}
+use Rattle.std.specs.declared.option.Option.the-variants.{Some}
 use Rattle.std.proofs.shelf.Tests.{both-ways, not-true, eqb-true, and-parts, cond-true, cond-false, cond-both}
 use Rattle.rules.specs.declared.types.Reservation.{Reservation}
-use Rattle.rules.specs.declared.types.State.the-variants.{Ready}
 use Rattle.rules.specs.declared.types.Call.{Call}
 use Rattle.rules.specs.declared.types.Answer.{Answer}
 use Rattle.rules.specs.Lists.{find}
 use Rattle.rules.specs.Setup.{Setup}
 use Rattle.rules.specs.System.{System}
-use Rattle.rules.specs.Server.{isReady, isSpent, filledTo, keeps, woken, served, wanting, charged, chargedIf, isName, isDue, refilled}
-use Rattle.rules.specs.Replay.{next, accepts}
+use Rattle.rules.specs.Server.{isReady, isSpent, filledTo, keeps, woken, chargedIf, isDue, refilled}
+use Rattle.rules.specs.Replay.{next}
 use Rattle.rules.specs.Share.{fills, Filling}
 use Rattle.rules.proofs.Steps.{Step, admits, wakes, rests, leaves, moves, deals, settles, by-step}
 use Rattle.rules.proofs.Finding.{found-number, find-change-same, find-map, some-same}
-use Rattle.rules.proofs.Basics.{Basic, Fair, Limited, limited, fair-at, ticked-number, woken-number}
+use Rattle.rules.proofs.Basics.{ticked-number, woken-number}
 
 -- The reservation n, whose terms are q in p, was just filled.
 pub record Filled (σ : System) (n q p : ℕ) : Type 0 where

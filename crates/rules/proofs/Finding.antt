@@ -9,7 +9,7 @@ use Rattle.std.specs.Options.{mapped, isSome}
 use Rattle.std.specs.declared.option.Option.{Option}
 use Rattle.std.specs.declared.option.Option.the-variants.{Some, None}
 use Rattle.std.specs.shelf.Lists.{All}
-use Rattle.std.proofs.shelf.Tests.{eqb-true, eqb-false, eq-eqb, ne-eqb}
+use Rattle.std.proofs.shelf.Tests.{eqb-true}
 use Rattle.std.proofs.shelf.Ways.{tells}
 use Rattle.std.proofs.shelf.Elements.{all-weaker}
 use Rattle.rules.specs.declared.types.Reservation.{Reservation}
@@ -47,10 +47,6 @@ found-above k n (x ∷ xs) r a h = let ih = found-above (x .number) n xs r (a .1
 pub not-found-below : (k n : ℕ) (rs : List Reservation) → Above k rs → n ≤ k → find n rs ≡ None
 not-found-below k n [] a l = refl
 not-found-below k n (x ∷ xs) a l = let h = a .0 in let ih = not-found-below (x .number) n xs (a .1) (omega arith) in grind (arith, tells)
-
-pub not-found-past : (g n : ℕ) (rs : List Reservation) → All (λ r. r .number ≤ g) rs → g < n → find n rs ≡ None
-not-found-past g n [] a l = refl
-not-found-past g n (x ∷ xs) a l = let h = a .0 in let ih = not-found-past g n xs (a .1) l in grind (arith, tells)
 
 pub find-change-same : (n : ℕ) (r x : Reservation) (rs : List Reservation) → r .number ≡ n → find n rs ≡ Some x → find n (change n r rs) ≡ Some r
 find-change-same n r x [] e h = absurd (none-some h)

@@ -1,27 +1,26 @@
--- A live reservation never runs above its share: for each tick run, the period is paid for from budget × deadline − left × period, which rises
--- only with the clock.
+-- A live reservation runs at most its share: since a filling its runs × period are covered by what budget × deadline − left × period has
+-- risen, and the deadline is at most a period ahead.
 use mathlib.Core.Path.{_≡_, refl, sym, ap, _∙_, subst, subst₂}
 use mathlib.Core.Logic.{_⊎_, inl, inr}
 use mathlib.Core.Bool.{Bool, true, false, cond, _&&_}
 use mathlib.Core.List.{List, [], _∷_}
-use Prim.Native.Nat.{ℕ, zero, suc, _+_, _-_, _*_, _/_, _≤_, _<_}
+use Prim.Native.Nat.{ℕ, _+_, _-_, _*_, _/_, _≤_, _<_}
 use native.Mathlib.Omega.{arith}
 use native.Mathlib.Nat.{mul-le-mul-left, le-div-iff-mul-le, zero-add, add-zero, add-assoc}
-use lib.Dec.{ltb}
 use Rattle.std.specs.Options.{isSome}
 use Rattle.std.specs.declared.option.Option.{Option}
 use Rattle.std.specs.declared.option.Option.the-variants.{Some, None}
-use Rattle.std.proofs.shelf.Tests.{both-ways, ltb-false, eqb-true, and-parts, cond-both, cases-lt}
+use Rattle.std.proofs.shelf.Tests.{both-ways, ltb-false, and-parts, cond-both, cases-lt}
 use Rattle.rules.specs.declared.types.Reservation.{Reservation}
 use Rattle.rules.specs.declared.types.Call.{Call}
 use Rattle.rules.specs.Lists.{find}
 use Rattle.rules.specs.Setup.{Setup}
 use Rattle.rules.specs.System.{System}
-use Rattle.rules.specs.Server.{isReady, isSpent, keeps, woken, filledTo, charged, isDue, refilled}
+use Rattle.rules.specs.Server.{isSpent, keeps, woken, filledTo, charged, isDue, refilled}
 use Rattle.rules.specs.Replay.{next, accepts, after, replay}
 use Rattle.rules.specs.Share.{isSettle, isNamed, ticks, runs, Filling, since, Lawful}
 use Rattle.rules.proofs.Finding.{none-some, some-same}
-use Rattle.rules.proofs.Basics.{Basic, Fair, Limited, limited, fair-at, fair-run, basic, basic-next, basic-after}
+use Rattle.rules.proofs.Basics.{Basic, Fair, limited, fair-at, fair-run, basic, basic-next, basic-after}
 use Rattle.rules.proofs.Turns.{Turn, turn, by-turn, turn-gone}
 use Rattle.rules.proofs.Absences.{gone-after}
 use Rattle.rules.proofs.Counts.{clock-after}

@@ -1,13 +1,13 @@
 -- Whom a core is dealt to: it is live and ready on the core, it goes before every other that is, and no other core names it.
 use mathlib.Core.Path.{_≡_, refl, sym, ap, _∙_, subst}
 use mathlib.Core.Logic.{_⊎_, inl, inr}
-use mathlib.Core.Bool.{Bool, true, false, cond, _&&_, _||_}
+use mathlib.Core.Bool.{Bool, true, false, cond, _||_}
 use mathlib.Core.List.{List, [], _∷_}
 use Prim.Native.Nat.{ℕ, zero, suc, _+_, _≤_, _<_}
 use native.Mathlib.Omega.{arith}
-use native.Mathlib.Nat.{add-zero, add-suc, suc-add, zero-add}
-use lib.Dec.{eqb, ltb, leb}
-use lib.ListN.{length, getD}
+use native.Mathlib.Nat.{add-zero, zero-add}
+use lib.Dec.{eqb}
+use lib.ListN.{getD}
 use Rattle.std.specs.Options.{mapped}
 use Rattle.std.specs.declared.option.Option.{Option}
 use Rattle.std.specs.declared.option.Option.the-variants.{Some, None}
@@ -20,7 +20,7 @@ use Rattle.rules.specs.Lists.{find}
 use Rattle.rules.specs.Server.{isReady, isName}
 use Rattle.rules.specs.Dealing.{goesFirst, sooner, earliest, isReadyOn, pick, picksFrom, picks}
 use Rattle.rules.specs.Share.{isNamed}
-use Rattle.rules.proofs.Finding.{Above, none-some, some-same, found-all, each-found}
+use Rattle.rules.proofs.Finding.{Above, none-some, some-same, each-found}
 
 first-self : (r : Reservation) → goesFirst r r ≡ true
 first-self r = grind (arith, tells)
@@ -146,9 +146,9 @@ module _ (n : ℕ) (x : Reservation) (rs : List Reservation) (a : Above 0 rs) (h
   pub named-on-core : (k : ℕ) → x .core < k → isNamed n (picks k rs) ≡ isName n (getD (picks k rs) (x .core) None)
   named-on-core k l = named-from 0 k (omega arith) (omega arith) ∙ sym (ap (isName n) (getD-picks k (x .core) rs l))
 
-  -- One that is named is ready.
-  pub named-ready : (k : ℕ) → x .core < k → isNamed n (picks k rs) ≡ true → isReady (x .state) ≡ true
-  named-ready k l e =
-      let found = name-found (x .core) n rs a (sym (named-from 0 k (omega arith) (omega arith)) ∙ e) in
+  -- One that its core's name names is ready.
+  pub name-ready : (k : ℕ) → x .core < k → isName n (getD (picks k rs) (x .core) None) ≡ true → isReady (x .state) ≡ true
+  name-ready k l e =
+      let found = name-found (x .core) n rs a (ap (isName n) (sym (getD-picks k (x .core) rs l)) ∙ e) in
       let same : found .0 ≡ x = some-same (sym (found .1) ∙ h) in
       subst (λ (y : Reservation). isReady (y .state) ≡ true) same (and-parts (isReady (found .0 .state)) (eqb (found .0 .core) (x .core)) (found .2) .0)

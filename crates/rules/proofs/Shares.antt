@@ -1,11 +1,7 @@
 -- The share law holds of every lawful setup.
-use mathlib.Core.Path.{_≡_}
-use mathlib.Core.List.{List}
-use Rattle.rules.specs.declared.types.Call.{Call}
-use Rattle.rules.specs.Setup.{Setup}
 use Rattle.rules.specs.System.{fresh}
 use Rattle.rules.specs.Replay.{replay}
-use Rattle.rules.specs.Share.{ShareLaw, Shares, Lawful}
+use Rattle.rules.specs.Share.{Shares}
 use Rattle.rules.proofs.Basics.{basic}
 use Rattle.rules.proofs.Counts.{clock-after, ran-replayed}
 use Rattle.rules.proofs.Rooms.{room-law}

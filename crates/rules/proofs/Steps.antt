@@ -1,14 +1,12 @@
 -- The accepted calls as steps, each with what its checks said, and the one lemma that opens the checks of every call.
-use mathlib.Core.Path.{_≡_, refl, ap}
-use mathlib.Core.Logic.{_⊎_, inl, inr}
-use mathlib.Core.Bool.{Bool, true, false, not, _&&_}
-use mathlib.Core.List.{List}
+use mathlib.Core.Path.{_≡_, refl}
+use mathlib.Core.Bool.{Bool, true, false}
 use Prim.Native.Nat.{ℕ, _+_, _≤_, _<_}
-use lib.Dec.{eqb, ltb, leb}
+use lib.Dec.{eqb}
 use lib.ListN.{length}
 use Rattle.std.specs.declared.option.Option.{Option}
 use Rattle.std.specs.declared.option.Option.the-variants.{Some, None}
-use Rattle.std.proofs.shelf.Tests.{not-true, not-false, ltb-true, leb-true, eqb-true, eqb-false, and-parts}
+use Rattle.std.proofs.shelf.Tests.{not-true, ltb-true, leb-true, eqb-true, eqb-false, and-parts}
 use Rattle.terms.specs.declared.refusals.Refusal.{Refusal}
 use Rattle.terms.specs.Limits.{inLimits}
 use Rattle.rules.specs.declared.types.Reservation.{Reservation}
@@ -67,7 +65,3 @@ by-step s σ c P refusals steps = go (answer s σ c) (opens s σ c)
     go : (o : Outcome) → Opens s σ c o → P (isAccepted o) (answerOf o) (stateAfter σ o)
     go o (refusal n) = refusals n
     go o (step a σ′ t) = steps a σ′ t
-
--- A call is refused and changes nothing, or it is a step.
-pub step-or-refusal : (s : Setup) (σ : System) (c : Call) → ((accepts s σ c ≡ false) × (next s σ c ≡ σ)) ⊎ ((a : Answer) × (σ′ : System) × Step s σ c a σ′ × (next s σ c ≡ σ′) × (reply s σ c ≡ a) × (accepts s σ c ≡ true))
-step-or-refusal s σ c = by-step s σ c (λ t a σ′. ((t ≡ false) × (σ′ ≡ σ)) ⊎ ((a₁ : Answer) × (σ₁ : System) × Step s σ c a₁ σ₁ × (σ′ ≡ σ₁) × (a ≡ a₁) × (t ≡ true))) (λ n. inl (refl, refl)) (λ a σ′ t. inr (a, σ′, t, refl, refl, refl))

@@ -1,6 +1,6 @@
 -- A settle keeps the claims covered: on a core that is dealt to one due up to d, the claims fall by one tick and the shares by at
 -- most what the core counts; on a core with none ready that is due up to d, the claims after the tick are those just filled.
-use mathlib.Core.Path.{_≡_, refl, sym, ap, subst, _∙_}
+use mathlib.Core.Path.{_≡_, refl, sym, ap, _∙_}
 use mathlib.Core.Logic.{⊎-elim}
 use mathlib.Core.Bool.{Bool, true, false, cond, _&&_}
 use mathlib.Core.List.{List, [], _∷_, map}
@@ -26,9 +26,9 @@ use Rattle.rules.specs.Server.{isReady, isName, charged, chargedIf, isDue, ref
 use Rattle.rules.specs.Dealing.{isReadyOn, pick, picks}
 use Rattle.rules.specs.Calls.{ticked}
 use Rattle.rules.specs.Share.{Lawful}
-use Rattle.rules.proofs.Finding.{some-same, found-all, each-found}
+use Rattle.rules.proofs.Finding.{found-all, each-found}
 use Rattle.rules.proofs.Basics.{Basic, fair-at}
-use Rattle.rules.proofs.Picking.{pick-found, pick-ready, pick-first, pick-none, getD-picks, name-found}
+use Rattle.rules.proofs.Picking.{pick-found, pick-ready, pick-first, pick-none, getD-picks, name-ready}
 use Rattle.rules.proofs.Weights.{one, weight, weight-whole, weight-sum}
 use Rattle.rules.proofs.Totals.{total-map, total-le, total-sum, total-kept, total-found, all-anyway, kept-map, total-weight}
 use Rattle.rules.proofs.Credits.{Measured, owed, held, credit, due, lapsed, passing, charging, calm, fading}
@@ -59,10 +59,8 @@ passed σ r = refilled (σ .clock + 1) (chargedIf (σ .names) r)
 -- The one named is ready.
 named-ready : (s : Setup) (σ : System) → Basic s σ → σ .out ≡ true → (r : Reservation) → find (r .number) (σ .live) ≡ Some r → isNamedOne σ r ≡ true → isReady (r .state) ≡ true
 named-ready s σ b out r found named =
-    let core : r .core < length (s .figures) = fair-at s σ b (r .number) r found .core in
-    let name : getD (σ .names) (r .core) None ≡ mapped (λ r. r .number) (pick (r .core) (σ .live)) = ap (λ ns. getD ns (r .core) None) (b .dealt out) ∙ getD-picks (length (s .figures)) (r .core) (σ .live) core in
-    let (x, there, ready) = name-found (r .core) (r .number) (σ .live) (b .ascending) (subst (λ o. isName (r .number) o ≡ true) name named) in
-    subst (λ y. isReady (y .state) ≡ true) (some-same (sym there ∙ found)) (and-parts _ _ ready .0)
+    name-ready (r .number) r (σ .live) (b .ascending) found (length (s .figures)) (fair-at s σ b (r .number) r found .core)
+    (ap (λ ns. isName (r .number) (getD ns (r .core) None)) (sym (b .dealt out)) ∙ named)
 
 measured-charged : (w : ℕ) (names : List (Option ℕ)) (r : Reservation) → Measured w r → Measured w (chargedIf names r)
 measured-charged w names r m =

@@ -2,7 +2,7 @@
 use mathlib.Core.Path.{_≡_, refl, sym, ap, _∙_, subst}
 use mathlib.Core.Logic.{_⊎_, inl, inr}
 use mathlib.Core.Bool.{Bool, true, false, cond, _&&_}
-use mathlib.Core.List.{List, [], _∷_}
+use mathlib.Core.List.{List}
 use Prim.Native.Nat.{ℕ, _+_, _≤_, _<_}
 use native.Mathlib.Omega.{arith}
 use lib.Dec.{eqb}
@@ -10,24 +10,21 @@ use lib.ListN.{length, getD}
 use Rattle.std.specs.Options.{mapped}
 use Rattle.std.specs.declared.option.Option.{Option}
 use Rattle.std.specs.declared.option.Option.the-variants.{Some, None}
-use Rattle.std.specs.shelf.Lists.{All}
-use Rattle.std.proofs.shelf.Tests.{both-ways, eqb-true, eqb-false, cases-eq}
-use Rattle.std.proofs.shelf.Elements.{all-weaker}
+use Rattle.std.proofs.shelf.Tests.{eqb-true, eqb-false, cases-eq}
 use Rattle.rules.specs.declared.types.Reservation.{Reservation}
 use Rattle.rules.specs.declared.types.Call.{Call}
 use Rattle.rules.specs.declared.types.Answer.{Answer}
 use Rattle.rules.specs.Lists.{find, change, without}
 use Rattle.rules.specs.Setup.{Setup}
 use Rattle.rules.specs.System.{System}
-use Rattle.rules.specs.Server.{isReady, isResting, keeps, onCore, woken, rested, charged, chargedIf, isName, refilled}
+use Rattle.rules.specs.Server.{isReady, isResting, onCore, woken, rested, charged, chargedIf, isName, refilled}
 use Rattle.rules.specs.Dealing.{picks}
-use Rattle.rules.specs.Calls.{ticked}
 use Rattle.rules.specs.Replay.{next, accepts}
-use Rattle.rules.specs.Share.{isSettle, stops, isNamed, Lawful}
+use Rattle.rules.specs.Share.{isSettle, stops, isNamed}
 use Rattle.rules.proofs.Steps.{Step, admits, wakes, rests, leaves, moves, deals, settles, by-step}
-use Rattle.rules.proofs.Finding.{none-some, some-same, found-all, found-number, not-found-past, find-change-same, find-change-other, find-without-same, find-without-other, find-push-same, find-push-other, find-map}
-use Rattle.rules.proofs.Basics.{Fair, Basic, fair-at, woken-number, ticked-number}
-use Rattle.rules.proofs.Picking.{not-named, named-on-core, named-ready}
+use Rattle.rules.proofs.Finding.{none-some, some-same, found-number, find-change-same, find-change-other, find-without-same, find-without-other, find-push-other, find-map}
+use Rattle.rules.proofs.Basics.{Basic, fair-at, woken-number, ticked-number}
+use Rattle.rules.proofs.Picking.{named-on-core, name-ready}
 
 -- What a call does to the live reservation n, which was x: whether it is stopped, whether a tick passes, whether it has run, and the next state.
 pub data Turn (n : ℕ) (σ : System) (x : Reservation) : Bool → Bool → Bool → System → Type 0 where
@@ -93,7 +90,7 @@ module _ (s : Setup) (σ : System) (b : Basic s σ) (n : ℕ) (x : Reservation) 
       on-core = fair-at s σ b n x live .core
 
       ready : isNamed n (σ .names) ≡ true → isReady (x .state) ≡ true
-      ready e = named-ready n x (σ .live) (b .ascending) live (length (s .figures)) on-core (ap (isNamed n) (sym (b .dealt out)) ∙ e)
+      ready e = name-ready n x (σ .live) (b .ascending) live (length (s .figures)) on-core (sym (named-on-core n x (σ .live) (b .ascending) live (length (s .figures)) on-core) ∙ ap (isNamed n) (sym (b .dealt out)) ∙ e)
 
       named : isNamed n (σ .names) ≡ isName (x .number) (getD (σ .names) (x .core) None)
       named = subst (λ (ns : List (Option ℕ)). isNamed n ns ≡ isName (x .number) (getD ns (x .core) None)) (sym (b .dealt out)) (named-on-core n x (σ .live) (b .ascending) live (length (s .figures)) on-core ∙ ap (λ (k : ℕ). isName k (getD (picks (length (s .figures)) (σ .live)) (x .core) None)) (sym (found-number n (σ .live) x live)))

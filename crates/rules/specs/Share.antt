@@ -5,7 +5,7 @@ use mathlib.Core.Logic.{_↔_}
 use mathlib.Core.Bool.{Bool, true, false, cond, not, _&&_, _||_}
 use mathlib.Core.List.{List, [], _∷_}
 use Prim.Native.Nat.{ℕ, _+_, _*_, _/_, _≤_, _<_}
-use lib.Dec.{eqb, ltb}
+use lib.Dec.{eqb}
 use lib.ListN.{length, getD}
 use Rattle.std.specs.Options.{isSome}
 use Rattle.std.specs.declared.option.Option.{Option}
@@ -15,7 +15,6 @@ use Rattle.terms.specs.Limits.{inLimits}
 use Rattle.rules.specs.declared.types.Reservation.{Reservation}
 use Rattle.rules.specs.declared.types.Call.{Call}
 use Rattle.rules.specs.declared.types.Call.the-variants.{Admit, Wake, Rest, Leave, Move, Deal, Settle}
-use Rattle.rules.specs.declared.types.Answer.{Answer}
 use Rattle.rules.specs.declared.types.Answer.the-variants.{Refused}
 use Rattle.rules.specs.Lists.{find}
 use Rattle.measure.specs.Laws.{Lawful as LawfulMeasure}
