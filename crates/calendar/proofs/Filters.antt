@@ -27,7 +27,7 @@ abbrev pub failing : {X : Type 0} → (X → Bool) → List X → List X
 failing p xs = kept-by (λ x. not (p x)) xs
 
 module _ {X : Type 0} {before : X → X → Bool} (o : Total before) (p : X → Bool) where
-  kept-front : (x : X) (q : List X) → Heads o x q → kept-by p (filed before x q) ≡ cond (p x) (filed before x (kept-by p q)) (kept-by p q)
+  kept-front : (x : X) (q : List X) → Heads before x q → kept-by p (filed before x q) ≡ cond (p x) (filed before x (kept-by p q)) (kept-by p q)
   kept-front x q h =
       ap (kept-by p) (filed-front o x q h)
       ∙ ap (λ l. cond (p x) l (kept-by p q)) (sym (filed-front o x (kept-by p q) (all-kept-by p (λ y. before x y ≡ true) q h)))
@@ -48,7 +48,7 @@ module _ {X : Type 0} {before : X → X → Bool} (o : Total before) (p : X → 
       ∙ ap (λ q. cond (p x) (filed before x q) q) (kept-queue xs)
       ∙ cond-both (p x) _ _ (λ l. cond (p x) (filed before x (queue before (kept-by p xs))) (queue before (kept-by p xs)) ≡ queue before l) (λ e. cond-true (p x) _ _ e) (λ e. cond-false (p x) _ _ e)
 
-  none-pass : (down : Down before p) (x : X) (q : List X) → p x ≡ false → Heads o x q → failing p q ≡ q
+  none-pass : (down : Down before p) (x : X) (q : List X) → p x ≡ false → Heads before x q → failing p q ≡ q
   none-pass down x [] no-x heads = refl
   none-pass down x (y ∷ ys) no-x heads =
       let h = none-pass down x ys no-x (heads .1) in

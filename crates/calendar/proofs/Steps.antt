@@ -95,7 +95,7 @@ module _ {X : Type 0} {before : X → X → Bool} (o : Total before) where
       let front : List X = take n xs in
       let long : length front ≡ n = length-take-le n xs (omega arith) in
       let at : getD front p r ≡ r = getD-take n xs p r lt ∙ sym isr in
-      let heads : Heads o r front = all-from-getD (λ y. before r y ≡ true) front r (λ k h.
+      let heads : Heads before r front = all-from-getD (λ y. before r y ≡ true) front r (λ k h.
       let below : k < n = omega arith in
       let q : before (getD xs p r) (getD xs k r) ≡ true = all k r below in
       rw (getD-take n xs k r) (rw (← isr) at q)) in
