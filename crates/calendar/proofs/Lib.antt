@@ -5,4 +5,5 @@ pub mod Sorted
 pub mod Bags
 pub mod Filters
 pub mod Rows
+pub mod Room
 pub mod Steps
