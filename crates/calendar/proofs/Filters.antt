@@ -1,14 +1,14 @@
 -- A filter of a queue, and a queue whose first ones are taken until one passes a test.
 -- Assumes nothing.
-use mathlib.Core.Path.{_≡_, refl, sym, ap, subst, _∙_}
-use mathlib.Core.Logic.{_⊎_, inl, inr, ⊎-elim}
+use mathlib.Core.Path.{_≡_, refl, sym, ap, _∙_}
+use mathlib.Core.Logic.{_⊎_, ⊎-elim}
 use mathlib.Core.Bool.{Bool, true, false, cond}
 use mathlib.Core.List.{List, [], _∷_}
 use native.Mathlib.Omega.{arith}
-use Rattle.std.specs.declared.option.Option.the-variants.{Some, None}
-use Rattle.std.specs.shelf.Lists.{All, kept-by}
-use Rattle.std.proofs.shelf.Elements.{all-kept-by, all-weaker}
-use Rattle.std.proofs.shelf.Tests.{cond-both, cond-true, cond-false, cases-bool, true≢false}
+use Rattle.std.specs.declared.option.Option.the-variants.{Some}
+use Rattle.std.specs.shelf.Lists.{kept-by}
+use Rattle.std.proofs.shelf.Elements.{all-kept-by}
+use Rattle.std.proofs.shelf.Tests.{cond-both, cond-true, cond-false, cases-bool}
 use Rattle.calendar.specs.Orders.{Total}
 use Rattle.calendar.specs.Queues.{filed, queue, first, after, Ascending}
 use Rattle.calendar.proofs.Sorted.{Heads, heads-weaker, filed-front, ascending-queue}

@@ -1,21 +1,20 @@
 -- A queue ascends: its first is at most all, and the least of a list stands first in its queue.
 -- Assumes nothing.
-use mathlib.Core.Path.{_≡_, refl, sym, ap, subst, _∙_}
+use mathlib.Core.Path.{_≡_, refl, sym, ap, _∙_}
 use mathlib.Core.Logic.{⊎-elim}
-use mathlib.Core.Bool.{Bool, true, false, cond, _&&_, _||_}
+use mathlib.Core.Bool.{Bool, true}
 use mathlib.Core.List.{List, [], _∷_, _++_}
-use Prim.Native.Nat.{ℕ, suc, _+_, _-_, _<_, _≤_}
+use Prim.Native.Nat.{ℕ, suc, _<_}
 use native.Mathlib.Omega.{arith}
-use lib.ListN.{length, getD, take, drop, set}
-use Rattle.std.specs.declared.option.Option.{Option}
+use lib.ListN.{length, getD, take, drop}
 use Rattle.std.specs.declared.option.Option.the-variants.{Some, None}
 use Rattle.std.specs.shelf.Lists.{All}
-use Rattle.std.proofs.shelf.Tests.{cond-true, cond-false, cond-both, cases-bool}
-use Rattle.std.proofs.shelf.Elements.{all-weaker, all-append, all-take, all-drop, all-getD}
-use Rattle.calendar.specs.Orders.{Total, alike}
-use Rattle.calendar.specs.Queues.{filed, queue, first, after, without, holds, Ascending}
+use Rattle.std.proofs.shelf.Tests.{cond-true, cond-both, cases-bool}
+use Rattle.std.proofs.shelf.Elements.{all-weaker, all-append, all-take, all-drop}
+use Rattle.calendar.specs.Orders.{Total}
+use Rattle.calendar.specs.Queues.{filed, queue, first, without, holds, Ascending}
 use Rattle.calendar.proofs.Counts.{holds-queue}
-use Rattle.calendar.proofs.Filing.{other-way, itself, queue-split, queue-set, without-filed}
+use Rattle.calendar.proofs.Filing.{other-way, itself, queue-split, without-filed}
 
 -- x is at most each of these
 abbrev pub Heads : {X : Type 0} → (X → X → Bool) → X → List X → Type 0
