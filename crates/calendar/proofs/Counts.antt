@@ -1,18 +1,18 @@
 -- What a queue keeps of its list: any sum or count, what is held, and the copies of each element, which fix the queue.
 -- Assumes nothing.
 use mathlib.Core.Path.{_≡_, refl, sym, ap, subst, _∙_}
-use mathlib.Core.Logic.{_⊎_, inl, inr, ⊎-elim}
-use mathlib.Core.Bool.{Bool, true, false, cond, _&&_, _||_}
+use mathlib.Core.Logic.{_⊎_, ⊎-elim}
+use mathlib.Core.Bool.{Bool, true, false, cond, _||_}
 use mathlib.Core.List.{List, [], _∷_, _++_}
-use Prim.Native.Nat.{ℕ, zero, suc, _+_, _-_, _<_, _≤_}
+use Prim.Native.Nat.{ℕ, zero, suc, _+_, _<_}
 use native.Mathlib.Nat.{not-suc-le-zero}
 use native.Mathlib.Omega.{arith}
 use lib.ListN.{length, getD}
 use Rattle.std.specs.shelf.Lists.{All, sumBy}
 use Rattle.std.proofs.shelf.Sums.{sumBy-cons}
-use Rattle.std.proofs.shelf.Tests.{cond-both, cond-true, cond-false, cases-bool, true≢false}
+use Rattle.std.proofs.shelf.Tests.{cond-both, cases-bool, true≢false}
 use Rattle.calendar.specs.Orders.{Total, alike}
-use Rattle.calendar.specs.Queues.{filed, queue, first, after, without, holds, copies, SameCopies}
+use Rattle.calendar.specs.Queues.{filed, queue, without, holds, copies, SameCopies}
 use Rattle.calendar.proofs.Filing.{itself, filed-comm, without-filed}
 
 -- F adds up the elements one by one, in any order

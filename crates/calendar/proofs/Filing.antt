@@ -1,18 +1,17 @@
 -- How an element is filed into a sorted list, and what a list's queue is when the list is cut, changed or joined.
 -- Assumes nothing.
 use mathlib.Core.Path.{_≡_, refl, sym, ap, subst, _∙_}
-use mathlib.Core.Logic.{_⊎_, inl, inr, ⊎-elim}
-use mathlib.Core.Bool.{Bool, true, false, cond, not, _&&_, _||_}
+use mathlib.Core.Logic.{_⊎_, ⊎-elim}
+use mathlib.Core.Bool.{Bool, true, false}
 use mathlib.Core.List.{List, [], _∷_, _++_}
-use Prim.Native.Nat.{ℕ, suc, _+_, _-_, _<_, _≤_}
+use Prim.Native.Nat.{ℕ, suc, _+_, _<_, _≤_}
 use native.Mathlib.Omega.{arith}
 use lib.ListN.{length, getD, take, drop, set}
 use lib.Seq.{take-set-lt}
-use Rattle.std.proofs.shelf.Lists.{append-nil, set-getD, set-split, take-more, getD-take, length-take-le, take-set-le}
-use Rattle.std.proofs.shelf.Tests.{cases-bool, cases-lt, cond-true, cond-false, both-ways}
-use Rattle.std.proofs.shelf.Ways.{tells}
-use Rattle.calendar.specs.Orders.{Total, alike}
-use Rattle.calendar.specs.Queues.{filed, queue, first, after, without, holds}
+use Rattle.std.proofs.shelf.Lists.{append-nil, set-getD, set-split, take-more, getD-take, length-take-le}
+use Rattle.std.proofs.shelf.Tests.{cases-lt}
+use Rattle.calendar.specs.Orders.{Total}
+use Rattle.calendar.specs.Queues.{filed, queue, without}
 
 module _ {X : Type 0} {before : X → X → Bool} (o : Total before) where
   -- two that do not compare one way compare the other way

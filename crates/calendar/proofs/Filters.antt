@@ -1,33 +1,29 @@
--- A filter of a queue, and a queue whose first ones are taken while they pass a test.
+-- A filter of a queue, and a queue whose first ones are taken until one passes a test.
 -- Assumes nothing.
-use mathlib.Core.Path.{_≡_, refl, sym, ap, subst, _∙_}
-use mathlib.Core.Logic.{_⊎_, inl, inr, ⊎-elim}
-use mathlib.Core.Bool.{Bool, true, false, cond, not}
+use mathlib.Core.Path.{_≡_, refl, sym, ap, _∙_}
+use mathlib.Core.Logic.{_⊎_, ⊎-elim}
+use mathlib.Core.Bool.{Bool, true, false, cond}
 use mathlib.Core.List.{List, [], _∷_}
 use native.Mathlib.Omega.{arith}
-use Rattle.std.specs.declared.option.Option.the-variants.{Some, None}
-use Rattle.std.specs.shelf.Lists.{All, kept-by}
-use Rattle.std.proofs.shelf.Elements.{all-kept-by, all-weaker}
-use Rattle.std.proofs.shelf.Tests.{cond-both, cond-true, cond-false, cases-bool, true≢false}
+use Rattle.std.specs.declared.option.Option.the-variants.{Some}
+use Rattle.std.specs.shelf.Lists.{kept-by}
+use Rattle.std.proofs.shelf.Elements.{all-kept-by}
+use Rattle.std.proofs.shelf.Tests.{cond-both, cond-true, cond-false, cases-bool}
 use Rattle.calendar.specs.Orders.{Total}
 use Rattle.calendar.specs.Queues.{filed, queue, first, after, Ascending}
 use Rattle.calendar.proofs.Sorted.{Heads, heads-weaker, filed-front, ascending-queue}
 
--- a test that passes with an element all that are at most it
-abbrev pub Down : {X : Type 0} → (X → X → Bool) → (X → Bool) → Type 0
-Down {X} before p = (x y : X) → before x y ≡ true → p y ≡ true → p x ≡ true
+-- a test that passes, with an element, all that it is at most
+abbrev pub Upward : {X : Type 0} → (X → X → Bool) → (X → Bool) → Type 0
+Upward {X} before p = (x y : X) → before x y ≡ true → p x ≡ true → p y ≡ true
 
--- the list from its first element on that does not pass
-abbrev pub dropped : {X : Type 0} → (X → Bool) → List X → List X
-dropped p [] = []
-dropped p (x ∷ xs) = cond (p x) (dropped p xs) (x ∷ xs)
-
--- what does not pass
-abbrev pub failing : {X : Type 0} → (X → Bool) → List X → List X
-failing p xs = kept-by (λ x. not (p x)) xs
+-- the list from its first element on that passes
+abbrev pub from-first : {X : Type 0} → (X → Bool) → List X → List X
+from-first p [] = []
+from-first p (x ∷ xs) = cond (p x) (x ∷ xs) (from-first p xs)
 
 module _ {X : Type 0} {before : X → X → Bool} (o : Total before) (p : X → Bool) where
-  kept-front : (x : X) (q : List X) → Heads o x q → kept-by p (filed before x q) ≡ cond (p x) (filed before x (kept-by p q)) (kept-by p q)
+  kept-front : (x : X) (q : List X) → Heads before x q → kept-by p (filed before x q) ≡ cond (p x) (filed before x (kept-by p q)) (kept-by p q)
   kept-front x q h =
       ap (kept-by p) (filed-front o x q h)
       ∙ ap (λ l. cond (p x) l (kept-by p q)) (sym (filed-front o x (kept-by p q) (all-kept-by p (λ y. before x y ≡ true) q h)))
@@ -48,35 +44,35 @@ module _ {X : Type 0} {before : X → X → Bool} (o : Total before) (p : X → 
       ∙ ap (λ q. cond (p x) (filed before x q) q) (kept-queue xs)
       ∙ cond-both (p x) _ _ (λ l. cond (p x) (filed before x (queue before (kept-by p xs))) (queue before (kept-by p xs)) ≡ queue before l) (λ e. cond-true (p x) _ _ e) (λ e. cond-false (p x) _ _ e)
 
-  none-pass : (down : Down before p) (x : X) (q : List X) → p x ≡ false → Heads o x q → failing p q ≡ q
-  none-pass down x [] no-x heads = refl
-  none-pass down x (y ∷ ys) no-x heads =
-      let h = none-pass down x ys no-x (heads .1) in
-      let k = down x y (heads .0) in
+  all-pass : (up : Upward before p) (x : X) (q : List X) → p x ≡ true → Heads before x q → kept-by p q ≡ q
+  all-pass up x [] yes-x heads = refl
+  all-pass up x (y ∷ ys) yes-x heads =
+      let h = all-pass up x ys yes-x (heads .1) in
+      let k = up x y (heads .0) in
       grind arith
 
-  -- where the first does not pass, none does
-  pub failing-stops : Down before p → (q : List X) (x : X) → Ascending before q → first q ≡ Some x → p x ≡ false → failing p q ≡ q
-  failing-stops down [] x asc is no-x = refl
-  failing-stops down (y ∷ ys) x asc is no-x =
-      let same : y ≡ x = cc in
-      let no-y : p y ≡ false = ap p same ∙ no-x in
-      let h = none-pass down y ys no-y (asc .0) in
-      grind arith
-
-  -- one that passes and stands first is among those that go
-  pub failing-after : (q : List X) (x : X) → first q ≡ Some x → p x ≡ true → failing p (after q) ≡ failing p q
-  failing-after [] x is yes-x = refl
-  failing-after (y ∷ ys) x is yes-x =
+  -- where the first passes, all do
+  pub kept-stops : Upward before p → (q : List X) (x : X) → Ascending before q → first q ≡ Some x → p x ≡ true → kept-by p q ≡ q
+  kept-stops up [] x asc is yes-x = refl
+  kept-stops up (y ∷ ys) x asc is yes-x =
       let same : y ≡ x = cc in
       let yes-y : p y ≡ true = ap p same ∙ yes-x in
+      let h = all-pass up y ys yes-y (asc .0) in
       grind arith
 
-  -- taking the first while it passes leaves what does not pass
-  pub dropped-failing : Down before p → (q : List X) → Ascending before q → dropped p q ≡ failing p q
-  dropped-failing down [] asc = refl
-  dropped-failing down (x ∷ q) asc =
+  -- a first one that does not pass is not kept
+  pub kept-after : (q : List X) (x : X) → first q ≡ Some x → p x ≡ false → kept-by p (after q) ≡ kept-by p q
+  kept-after [] x is no-x = refl
+  kept-after (y ∷ ys) x is no-x =
+      let same : y ≡ x = cc in
+      let no-y : p y ≡ false = ap p same ∙ no-x in
+      grind arith
+
+  -- taking the first until it passes leaves what passes
+  pub from-first-kept : Upward before p → (q : List X) → Ascending before q → from-first p q ≡ kept-by p q
+  from-first-kept up [] asc = refl
+  from-first-kept up (x ∷ q) asc =
       ⊎-elim
-      (λ yes-x. let h = dropped-failing down q (asc .1) in grind arith)
-      (λ no-x. let h = none-pass down x q no-x (asc .0) in grind arith)
+      (λ yes-x. let h = all-pass up x q yes-x (asc .0) in grind arith)
+      (λ no-x. let h = from-first-kept up q (asc .1) in grind arith)
       (cases-bool (p x))

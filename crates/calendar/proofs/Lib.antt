@@ -4,4 +4,6 @@ pub mod Counts
 pub mod Sorted
 pub mod Bags
 pub mod Filters
+pub mod Rows
+pub mod Room
 pub mod Steps

@@ -1,11 +1,10 @@
 -- Figures compared in turn are a total order, and so are the elements that they tell apart.
 -- Assumes nothing.
-use mathlib.Core.Path.{_≡_, refl, ap, _∙_}
-use mathlib.Core.Bool.{Bool, true, false, _&&_, _||_}
+use mathlib.Core.Path.{_≡_, refl}
+use mathlib.Core.Bool.{true, _||_}
 use mathlib.Core.List.{List, [], _∷_}
 use Prim.Native.Nat.{ℕ}
 use native.Mathlib.Omega.{arith}
-use lib.Dec.{ltb, eqb}
 use Rattle.std.proofs.shelf.Ways.{tells}
 use Rattle.calendar.specs.Orders.{Total, in-turn}
 

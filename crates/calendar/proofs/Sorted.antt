@@ -1,21 +1,24 @@
 -- A queue ascends: its first is at most all, and the least of a list stands first in its queue.
 -- Assumes nothing.
-use mathlib.Core.Path.{_≡_, refl, sym, ap, subst, _∙_}
+use mathlib.Core.Path.{_≡_, refl, sym, ap, _∙_}
 use mathlib.Core.Logic.{⊎-elim}
-use mathlib.Core.Bool.{Bool, true, false, cond, _&&_, _||_}
+use mathlib.Core.Bool.{Bool, true}
 use mathlib.Core.List.{List, [], _∷_, _++_}
-use Prim.Native.Nat.{ℕ, suc, _+_, _-_, _<_, _≤_}
+use Prim.Native.Nat.{ℕ, suc, _<_}
 use native.Mathlib.Omega.{arith}
-use lib.ListN.{length, getD, take, drop, set}
-use Rattle.std.specs.declared.option.Option.{Option}
+use lib.ListN.{length, getD, take, drop}
 use Rattle.std.specs.declared.option.Option.the-variants.{Some, None}
 use Rattle.std.specs.shelf.Lists.{All}
-use Rattle.std.proofs.shelf.Tests.{cond-true, cond-false, cond-both, cases-bool}
-use Rattle.std.proofs.shelf.Elements.{all-weaker, all-append, all-take, all-drop, all-getD}
-use Rattle.calendar.specs.Orders.{Total, alike}
-use Rattle.calendar.specs.Queues.{filed, queue, first, after, without, holds, Ascending}
+use Rattle.std.proofs.shelf.Tests.{cond-true, cond-both, cases-bool}
+use Rattle.std.proofs.shelf.Elements.{all-weaker, all-append, all-take, all-drop}
+use Rattle.calendar.specs.Orders.{Total}
+use Rattle.calendar.specs.Queues.{filed, queue, first, without, holds, Ascending}
 use Rattle.calendar.proofs.Counts.{holds-queue}
-use Rattle.calendar.proofs.Filing.{other-way, itself, queue-split, queue-set, without-filed}
+use Rattle.calendar.proofs.Filing.{other-way, itself, queue-split, without-filed}
+
+-- x is at most each of these
+abbrev pub Heads : {X : Type 0} → (X → X → Bool) → X → List X → Type 0
+Heads before x q = All (λ y. before x y ≡ true) q
 
 module _ {X : Type 0} {before : X → X → Bool} (o : Total before) where
   pub all-filed : (P : X → Type 0) (x : X) (q : List X) → P x → All P q → All P (filed before x q)
@@ -28,12 +31,8 @@ module _ {X : Type 0} {before : X → X → Bool} (o : Total before) where
   all-queue P [] all = tt
   all-queue P (x ∷ xs) all = all-filed P x (queue before xs) (all .0) (all-queue P xs (all .1))
 
-  -- x is at most each of these
-  abbrev pub Heads : X → List X → Type 0
-  Heads x q = All (λ y. before x y ≡ true) q
-
   -- one that is at most another is at most all that the other is
-  pub heads-weaker : (x y : X) (q : List X) → before x y ≡ true → Heads y q → Heads x q
+  pub heads-weaker : (x y : X) (q : List X) → before x y ≡ true → Heads before y q → Heads before x q
   heads-weaker x y q h = all-weaker (λ z. before y z ≡ true) (λ z. before x z ≡ true) (λ z k. o .passes x y z h k) q
 
   pub ascending-filed : (x : X) (q : List X) → Ascending before q → Ascending before (filed before x q)
@@ -48,7 +47,7 @@ module _ {X : Type 0} {before : X → X → Bool} (o : Total before) where
   ascending-queue (x ∷ xs) = ascending-filed x (queue before xs) (ascending-queue xs)
 
   -- one that is at most all others is filed in front
-  pub filed-front : (x : X) (q : List X) → Heads x q → filed before x q ≡ x ∷ q
+  pub filed-front : (x : X) (q : List X) → Heads before x q → filed before x q ≡ x ∷ q
   filed-front x [] h = refl
   filed-front x (y ∷ ys) h = cond-true (before x y) _ _ (h .0)
 
@@ -62,7 +61,7 @@ module _ {X : Type 0} {before : X → X → Bool} (o : Total before) where
   without-first x q = let i = itself o x in grind arith
 
   -- the one at a place is at most all: it stands first, and the others after it
-  pub queue-least : (xs : List X) (i : ℕ) (d : X) → i < length xs → Heads (getD xs i d) xs → queue before xs ≡ getD xs i d ∷ without before (getD xs i d) (queue before xs)
+  pub queue-least : (xs : List X) (i : ℕ) (d : X) → i < length xs → Heads before (getD xs i d) xs → queue before xs ≡ getD xs i d ∷ without before (getD xs i d) (queue before xs)
   queue-least xs i d h heads =
       let x : X = getD xs i d in
       let rest : List X = take i xs ++ drop (suc i) xs in
@@ -107,7 +106,7 @@ module _ {X : Type 0} {before : X → X → Bool} (o : Total before) where
   first-of x (y ∷ ys) is = (ys, ap (λ z. z ∷ ys) (some-same y x is))
 
   -- the first of a queue is in the list, and is at most all
-  pub first-some : (xs : List X) (x : X) → first (queue before xs) ≡ Some x → (holds before x xs ≡ true) × Heads x xs
+  pub first-some : (xs : List X) (x : X) → first (queue before xs) ≡ Some x → (holds before x xs ≡ true) × Heads before x xs
   first-some xs x is =
       let (rest, split) = first-of x (queue before xs) is in
       let held : holds before x (x ∷ rest) ≡ true = (let i = itself o x in grind arith) in

@@ -1,20 +1,19 @@
 -- What each function's return and each turn of its loop come to, over plain lists.
 -- Assumes nothing.
 use mathlib.Core.Path.{_≡_, refl, sym, ap, subst, _∙_}
-use mathlib.Core.Logic.{_⊎_, inl, inr, ⊎-elim}
-use mathlib.Core.Bool.{Bool, true, false, cond, _&&_, _||_}
+use mathlib.Core.Logic.{_⊎_, ⊎-elim}
+use mathlib.Core.Bool.{Bool, true, false, cond}
 use mathlib.Core.List.{List, [], _∷_, _++_}
-use Prim.Native.Nat.{ℕ, suc, _+_, _-_, _<_, _≤_, min}
+use Prim.Native.Nat.{ℕ, _+_, _-_, _<_, _≤_, min}
 use native.Mathlib.Omega.{arith}
 use lib.ListN.{length, getD, take, drop, set}
 use Rattle.std.specs.declared.option.Option.{Option}
 use Rattle.std.specs.declared.option.Option.the-variants.{Some, None}
-use Rattle.std.specs.shelf.Lists.{All}
 use Rattle.std.proofs.shelf.Lists.{getD-read, getD-take, length-take-le, take-all, take-more, take-more-set, getD-set-other, drop-set-lt}
 use Rattle.std.proofs.shelf.Elements.{all-from-getD}
 use Rattle.std.proofs.shelf.Tests.{cases-lt}
 use Rattle.calendar.specs.Orders.{Total, alike}
-use Rattle.calendar.specs.Queues.{filed, queue, first, after, without, holds, copies, Least}
+use Rattle.calendar.specs.Queues.{filed, queue, first, without, holds, copies, Least}
 use Rattle.calendar.specs.Places.{held, size, counting, OneWritten, LeastAt, FoundAt}
 use Rattle.calendar.specs.declared.Calendar.{Calendar}
 use Rattle.calendar.proofs.Filing.{other-way, itself, queue-push, queue-hole}
@@ -95,7 +94,7 @@ module _ {X : Type 0} {before : X → X → Bool} (o : Total before) where
       let front : List X = take n xs in
       let long : length front ≡ n = length-take-le n xs (omega arith) in
       let at : getD front p r ≡ r = getD-take n xs p r lt ∙ sym isr in
-      let heads : Heads o r front = all-from-getD (λ y. before r y ≡ true) front r (λ k h.
+      let heads : Heads before r front = all-from-getD (λ y. before r y ≡ true) front r (λ k h.
       let below : k < n = omega arith in
       let q : before (getD xs p r) (getD xs k r) ≡ true = all k r below in
       rw (getD-take n xs k r) (rw (← isr) at q)) in

@@ -77,13 +77,13 @@ impl Calendar {
         ensures meaning { λ _. ⌜ Bag before (held (now (self .entry)) (now (places .entry))) ⌝ }
     {
         let n = self.within(places.len());
-        let mut count = 0;
+        let mut seen = 0;
         for i in 0..n {
             if alike(x, places[i]) {
-                count += 1;
+                seen += 1;
             }
         }
-        count
+        seen
     }
 
     // How many of `len` places are held.

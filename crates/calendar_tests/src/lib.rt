@@ -1,5 +1,4 @@
 // The calendar tried on the engine's two kinds of element.
-ghost use mathlib.Core.Path.{_≡_};
 ghost use Rattle.calendar_tests.specs.Keys.{sooner, lapses};
 use calendar::Order;
 

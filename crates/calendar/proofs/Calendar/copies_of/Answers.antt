@@ -1,8 +1,8 @@
 use mathlib.Core.Path.{_≡_, sym, ap, _∙_}
-use mathlib.Core.Bool.{cond}
-use Prim.Native.Nat.{ℕ, _+_, _≤_}
+use mathlib.Core.Bool.{true, false}
+use Prim.Native.Nat.{ℕ}
 use native.Mathlib.Omega.{arith}
-use lib.ListN.{take, length}
+use lib.ListN.{take}
 use Rattle.std.proofs.shelf.Tests.{cond-true, cond-false}
 use Rattle.calendar.specs.Orders.{alike}
 use Rattle.calendar.specs.Queues.{copies}
@@ -14,13 +14,19 @@ use Rattle.calendar.proofs.Calendar.copies_of.Needs.{then-alike, else-alike}
 
 pub loop-i-again : need.loop-i-again
 loop-i-again g c =
-    let before = g .T·Order .before in
     let x = c .args .x in
     let y = c .index-places-i .result in
-    let more = copies-more before x (c .args .places .now) (c .loop-i .i) y (omega arith) (c .index-places-i .is) in
+    let same = alike (g .T·Order .before) x y in
+    let more = copies-more (g .T·Order .before) x (c .args .places .now) (c .loop-i .i) y (omega arith) (c .index-places-i .is) in
     elim (c .if-alike .came) [
-      | then-alike w ↦ (omega (arith, w .count-is), omega (arith, w .count-is, more, cond-true {A = ℕ} (alike before x y) 1 0 (sym (w .if-alike .ensures tt))))
-      | else-alike w ↦ (omega (arith, w .count-is), omega (arith, w .count-is, more, cond-false {A = ℕ} (alike before x y) 1 0 (sym (w .if-alike .ensures tt))))
+      | then-alike w ↦
+          let test : same ≡ true = cc in
+          let one = cond-true {A = ℕ} same 1 0 test in
+          (omega (arith, w .seen-is), omega (arith, w .seen-is, more, one))
+      | else-alike w ↦
+          let test : same ≡ false = cc in
+          let none = cond-false {A = ℕ} same 1 0 test in
+          (omega (arith, w .seen-is), omega (arith, w .seen-is, more, none))
     ]
 
 pub returns : need.returns

@@ -1,4 +1,6 @@
 use mathlib.Core.Path.{refl, sym, ap, _∙_}
+use borrow.Author.Needs.{needs}
+use Rattle.calendar.specs.Places.{LeastAt}
 use Rattle.calendar.specs.Queues.{first, after, queue}
 use Rattle.calendar.proofs.Steps.{nothing, none-written, least-first, taken}
 use Rattle.calendar.proofs.Calendar.take_least.Needs as need
@@ -20,10 +22,13 @@ returns g c =
     let o = g .T·Order·met .total in
     let cal = c .args .self .now in
     let xs = c .args .places .now in
+    let n = c .within-n .result in
+    let place = c .least-place-place .result in
+    let r = c .take-at .result in
     let out = c .take-at .ensures in
-    let place = c .least-place-place .ensures in
-    let split = least-first o xs (cal .count) _ _ _ (c .within-n .ensures) place (out .answer) in
-    let done = taken o cal (c .take-at .last .self) xs (c .take-at .last .places) _ _ _ (c .within-n .ensures) (place .0) (out .answer) (out .next) (out .written) in
+    let lowest : LeastAt (g .T·Order .before) xs n place = search needs in
+    let split = least-first o xs (cal .count) n place r (c .within-n .ensures) lowest (out .answer) in
+    let done = taken o cal (c .take-at .last .self) xs (c .take-at .last .places) n place r (c .within-n .ensures) (lowest .0) (out .answer) (out .next) (out .written) in
     record {
       answer = sym (ap first split);
       next = done .next;
