@@ -9,6 +9,7 @@ ghost use Rattle.table.specs.Rows.{allFit};
 ghost use Rattle.table.specs.Sound.{live};
 use crate::inner::Inner;
 
+#[derive(Drop)]
 pub struct Table {
     inner: Inner,
     ghost clocked: { inner .clock ≤ 4000000000 },

@@ -8,8 +8,8 @@ ghost use Rattle.table.specs.Calls.{opening, newcomer, admitAnswer, admitLive,
 ghost use Rattle.table.specs.View.{clockOf, liveOf, shown};
 use super::Table;
 use crate::inner::Inner;
-use crate::inner::Picks;
 use crate::server::Event;
+use crate::server::Picks;
 use crate::server::change;
 use rules::Reservation;
 use rules::State;
