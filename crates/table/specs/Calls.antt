@@ -13,7 +13,7 @@ use Rattle.terms.specs.declared.refusals.Refusal.the-variants.{Start, NoCore, C
 use Rattle.rules.specs.declared.types.Reservation.{Reservation}
 use Rattle.rules.specs.declared.types.State.{State}
 use Rattle.rules.specs.declared.types.State.the-variants.{Resting}
-use Rattle.rules.specs.Lists.{find, change, without}
+use Rattle.rules.specs.Lists.{find, change}
 use Rattle.rules.specs.Setup.{lastTick}
 use Rattle.rules.specs.System.{liveLimit}
 use Rattle.rules.specs.Server.{isResting, woken, rested, onCore, chargedIf, refilled}
