@@ -1,18 +1,18 @@
 -- That all reservations fit, under the changes of a table.
 use mathlib.Core.Path.{_≡_, refl}
-use mathlib.Core.Bool.{Bool, true, false, cond, _&&_}
+use mathlib.Core.Bool.{true}
 use mathlib.Core.List.{List, [], _∷_, _++_}
 use Prim.Native.Nat.{ℕ, zero, suc, _+_, _<_, _≤_}
 use native.Mathlib.Nat.{not-suc-le-zero}
 use native.Mathlib.Omega.{arith}
-use lib.ListN.{length, getD, set, take, drop}
+use lib.ListN.{length, getD, set}
 use Rattle.std.specs.Holes.{removed}
 use Rattle.std.specs.declared.option.Option.{Option}
 use Rattle.std.specs.declared.option.Option.the-variants.{None}
 use Rattle.std.proofs.shelf.Tests.{cond-both}
 use Rattle.std.proofs.shelf.Ways.{tells}
 use Rattle.rules.specs.declared.types.Reservation.{Reservation}
-use Rattle.rules.specs.Server.{isResting, isName, isDue, woken, refilled, chargedIf, onCore}
+use Rattle.rules.specs.Server.{isResting, isName, isDue, woken, refilled, chargedIf}
 use Rattle.table.specs.declared.server.Event.the-variants.{Wake, Rest}
 use Rattle.table.specs.Calls.{newcomer, ticked}
 use Rattle.table.specs.Events.{afterEvent}
@@ -54,9 +54,6 @@ fit-woken t r h = grind (arith, tells)
 pub fit-refilled : (t : ℕ) (r : Reservation) → fit t r ≡ true → fit t (refilled t r) ≡ true
 fit-refilled t r h =
     cond-both (isDue t r) _ _ (λ x. fit t x ≡ true) (λ due. grind (arith, tells)) (λ _. h)
-
-pub fit-onCore : (t : ℕ) (r : Reservation) (c : ℕ) → fit t r ≡ true → c < 8 → fit t (onCore r c) ≡ true
-fit-onCore t r c h lt = grind (arith, tells)
 
 -- one that fits before the tick t fits after it
 pub fit-ticked : (names : List (Option ℕ)) (t : ℕ) (r : Reservation) → fit t r ≡ true → fit (t + 1) (ticked names (t + 1) r) ≡ true

@@ -1,5 +1,5 @@
 -- The rows at one turn of a tick's pass: those before the place are done, the others as they were.
-use mathlib.Core.Path.{_≡_, refl, sym, ap, subst, _∙_}
+use mathlib.Core.Path.{_≡_, sym, ap, subst, _∙_}
 use mathlib.Core.Bool.{true}
 use mathlib.Core.List.{List, _++_, map}
 use Prim.Native.Nat.{ℕ, _+_, _-_, _<_, _≤_}
@@ -59,9 +59,11 @@ module _ (names : List (Option ℕ)) (was s : Inner) (sound-was : Sound was) (so
       subst (λ k. fit k row ≡ true) t fit-was
 
   -- it fits when the tick has passed
-  pub fit-after : fit (s .clock) (ticked names (s .clock) (getD (s .rows) i d)) ≡ true
+  pub fit-after : (x : Reservation) → x ≡ ticked names (s .clock) (getD (s .rows) i d) → fit (s .clock) x ≡ true
   unfolding row
-  fit-after = subst (λ k. fit k (ticked names k row) ≡ true) (sym later) (fit-ticked names (was .clock) row fit-was)
+  fit-after x is =
+      subst (λ r. fit (s .clock) r ≡ true) (sym is)
+      (subst (λ k. fit k (ticked names k row) ≡ true) (sym later) (fit-ticked names (was .clock) row fit-was))
 
   -- one row more is done
   pub over-more : (zs : List Reservation) (x : Reservation) → x ≡ ticked names (s .clock) (getD (s .rows) i d) → zs ≡ set (live s) i x → zs ≡ map (ticked names (was .clock + 1)) (take (i + 1) (live was)) ++ drop (i + 1) (live was)

@@ -1,8 +1,8 @@
 -- The first of a core's ready keys is that of the reservation that the core is dealt to.
 use mathlib.Core.Path.{_≡_, refl, sym, ap, _∙_}
-use mathlib.Core.Bool.{Bool, true, false, cond}
+use mathlib.Core.Bool.{cond}
 use mathlib.Core.List.{List, [], _∷_, _++_, map}
-use Prim.Native.Nat.{ℕ, zero, suc, _+_, _-_, _<_, _≤_}
+use Prim.Native.Nat.{ℕ, zero, suc, _+_, _-_, _<_}
 use native.Mathlib.Numerals.{add-one}
 use native.Mathlib.Omega.{arith}
 use lib.ListN.{length, getD, set, replicate}
@@ -13,7 +13,7 @@ use Rattle.std.specs.declared.option.Option.the-variants.{Some, None}
 use Rattle.std.proofs.shelf.Lists.{append-assoc, getD-default, set-append-right}
 use Rattle.calendar.specs.Queues.{filed, queue, first}
 use Rattle.rules.specs.declared.types.Reservation.{Reservation}
-use Rattle.rules.specs.Dealing.{goesFirst, sooner, earliest, isReadyOn, pick, picksFrom, picks}
+use Rattle.rules.specs.Dealing.{sooner, earliest, isReadyOn, pick, picksFrom, picks}
 use Rattle.table.specs.declared.keys.Key.{Key}
 use Rattle.table.specs.declared.keys.Queue.{Queue}
 use Rattle.table.specs.declared.inner.Inner.{Inner}

@@ -1,5 +1,5 @@
 -- A part of a list turned by one: its first element goes behind the others.
-use mathlib.Core.Path.{_≡_, refl, sym, ap, _∙_}
+use mathlib.Core.Path.{_≡_, sym, ap, _∙_}
 use mathlib.Core.List.{List, _++_}
 use Prim.Native.Nat.{ℕ, suc, _+_, _-_, _<_, _≤_}
 use native.Mathlib.Numerals.{add-one}
@@ -8,7 +8,7 @@ use borrow.Author.Needs.{needs}
 use borrow.Rule.Slice.PartMut.{putMid}
 use lib.ListN.{length, take, drop}
 use Rattle.std.specs.Holes.{between, removed}
-use Rattle.std.proofs.shelf.Lists.{append-assoc, length-append, length-take-le, length-take, length-drop, take-take, take-at, drop-drop, take-append-drop, places}
+use Rattle.std.proofs.shelf.Lists.{append-assoc, length-append, length-take, length-drop, take-take, take-at, drop-drop, places}
 use Rattle.std.proofs.shelf.Parts.{between-is, take-putMid}
 use Rattle.std.proofs.shelf.Edits.{length-between}
 

@@ -1,10 +1,10 @@
 -- What stays true of a table's figures when its rows and queues change.
-use mathlib.Core.Path.{_≡_, refl, sym, ap, subst, _∙_}
-use mathlib.Core.Bool.{Bool, true, false}
+use mathlib.Core.Path.{_≡_, refl, sym, ap, _∙_}
+use mathlib.Core.Bool.{true, false}
 use mathlib.Core.List.{List, [], _∷_, _++_}
-use Prim.Native.Nat.{ℕ, suc, _+_, _-_, _<_, _≤_}
+use Prim.Native.Nat.{ℕ, _+_, _-_, _<_, _≤_}
 use native.Mathlib.Omega.{arith}
-use lib.ListN.{length, getD, set, take, drop, replicate}
+use lib.ListN.{length, getD, set, take, replicate}
 use lib.Seq.{take-set-lt}
 use Rattle.std.specs.Holes.{removed}
 use Rattle.std.specs.declared.option.Option.the-variants.{Some, None}
@@ -17,7 +17,7 @@ use Rattle.rules.specs.System.{liveLimit}
 use Rattle.table.specs.declared.keys.Queue.{Queue}
 use Rattle.table.specs.declared.inner.Inner.{Inner}
 use Rattle.table.specs.Keys.{noQueue, capacity, readyKeys, waiting, waitingOn, lessOn, Sized}
-use Rattle.table.specs.Rows.{fit, allFit}
+use Rattle.table.specs.Rows.{fit}
 use Rattle.table.specs.Sound.{live, Tied, Sound, RowOf}
 use Rattle.table.proofs.Fits.{fit-core, fit-at, all-set, all-push, all-removed, all-later}
 use Rattle.table.proofs.Ties.{tied-less, room-less, tied-push}

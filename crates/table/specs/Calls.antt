@@ -13,7 +13,7 @@ use Rattle.terms.specs.declared.refusals.Refusal.the-variants.{Start, NoCore, C
 use Rattle.rules.specs.declared.types.Reservation.{Reservation}
 use Rattle.rules.specs.declared.types.State.{State}
 use Rattle.rules.specs.declared.types.State.the-variants.{Resting}
-use Rattle.rules.specs.Lists.{find, change, without}
+use Rattle.rules.specs.Lists.{find, change}
 use Rattle.rules.specs.Setup.{lastTick}
 use Rattle.rules.specs.System.{liveLimit}
 use Rattle.rules.specs.Server.{isResting, woken, rested, onCore, chargedIf, refilled}
@@ -23,7 +23,7 @@ use Rattle.rules.specs.Dealing.{picks}
 abbrev pub opening : ℕ → Result (ℕ × List Reservation) Refusal
 opening start = cond (leb start lastTick) (Ok (start, [])) (Err Start)
 
--- At most eight cores have queues.
+-- One of eight cores.
 abbrev pub isCore : ℕ → Bool
 isCore core = ltb core 8
 
@@ -41,6 +41,7 @@ newcomer t number q p parts core = record {
   state = Resting;
 }
 
+-- Admit asks for one of eight cores, and then for a place.
 abbrev pub admitAnswer : ℕ → List Reservation → Result (Unit {0}) Refusal
 admitAnswer core rs = cond (isCore core) (cond (ltb (length rs) liveLimit) (Ok tt) (Err TooMany)) (Err NoCore)
 
@@ -62,6 +63,7 @@ inLive (Some r) rs next = next r
 abbrev pub wakeAnswer : ℕ → ℕ → List Reservation → Result (State × ℕ) Refusal
 wakeAnswer n t rs = ofLive (find n rs) λ r. cond (isResting (r .state)) (Ok (woken t r .state, woken t r .deadline)) (Err NotResting)
 
+-- Woken where it rested, else all stay as they were.
 abbrev pub wakeLive : ℕ → ℕ → List Reservation → List Reservation
 wakeLive n t rs = inLive (find n rs) rs λ r. cond (isResting (r .state)) (change n (woken t r) rs) rs
 
@@ -69,6 +71,7 @@ wakeLive n t rs = inLive (find n rs) rs λ r. cond (isResting (r .state)) (chang
 abbrev pub restAnswer : ℕ → List Reservation → Result ℕ Refusal
 restAnswer n rs = ofLive (find n rs) λ r. cond (isResting (r .state)) (Err AlreadyResting) (Ok (r .left))
 
+-- At rest where it did not rest, else all stay as they were.
 abbrev pub restLive : ℕ → List Reservation → List Reservation
 restLive n rs = inLive (find n rs) rs λ r. cond (isResting (r .state)) rs (change n (rested r) rs)
 
@@ -76,9 +79,11 @@ restLive n rs = inLive (find n rs) rs λ r. cond (isResting (r .state)) rs (chan
 abbrev pub removeAnswer : ℕ → List Reservation → Result Reservation Refusal
 removeAnswer n rs = ofLive (find n rs) Ok
 
+-- Transfer asks for one of eight cores, and then for the reservation.
 abbrev pub transferAnswer : ℕ → ℕ → List Reservation → Result (Unit {0}) Refusal
 transferAnswer n core rs = cond (isCore core) (ofLive (find n rs) λ r. Ok tt) (Err NoCore)
 
+-- The reservation on the other core, where there are both.
 abbrev pub transferLive : ℕ → ℕ → List Reservation → List Reservation
 transferLive n core rs = cond (isCore core) (inLive (find n rs) rs λ r. change n (onCore r core) rs) rs
 
@@ -90,6 +95,7 @@ dealt cores rs = picks (min cores 8) rs ++ replicate (8 - min cores 8) None
 abbrev pub tickAnswer : ℕ → Result ℕ Refusal
 tickAnswer t = cond (eqb t lastTick) (Err ClockEnd) (Ok (t + 1))
 
+-- The clock after a tick, if one passes.
 abbrev pub tickClock : ℕ → ℕ
 tickClock t = cond (eqb t lastTick) t (t + 1)
 
@@ -97,5 +103,6 @@ tickClock t = cond (eqb t lastTick) t (t + 1)
 abbrev pub ticked : List (Option ℕ) → ℕ → Reservation → Reservation
 ticked names t r = refilled t (chargedIf names r)
 
+-- Each reservation one tick on, if a tick passes.
 abbrev pub tickLive : List (Option ℕ) → ℕ → List Reservation → List Reservation
 tickLive names t rs = cond (eqb t lastTick) rs (map (ticked names (t + 1)) rs)

@@ -8,9 +8,11 @@ use Rattle.rules.specs.declared.types.Reservation.{Reservation}
 use Rattle.table.specs.declared.live.Table.{Table}
 use Rattle.table.specs.Sound.{live}
 
+-- The tick that the clock shows.
 abbrev pub clockOf : Table → ℕ
 clockOf t = t .inner .clock
 
+-- The live reservations in order.
 abbrev pub liveOf : Table → List Reservation
 liveOf t = live (t .inner)
 

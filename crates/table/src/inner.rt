@@ -1,9 +1,9 @@
 // The table's plain figures and their upkeep: what a call asks of them, it leaves.
 ghost use mathlib.Core.Path.{_≡_};
-ghost use mathlib.Core.Bool.{Bool, true, false};
-ghost use mathlib.Core.List.{List, [], _∷_, _++_, map};
-ghost use Prim.Native.Nat.{ℕ, _+_, _-_, _<_, _≤_};
-ghost use lib.ListN.{length, set, replicate};
+ghost use mathlib.Core.Bool.{true, false};
+ghost use mathlib.Core.List.{[], _∷_, _++_, map};
+ghost use Prim.Native.Nat.{_+_, _-_, _<_, _≤_};
+ghost use lib.ListN.{set, replicate};
 ghost use Rattle.std.specs.Holes.{removed};
 ghost use Rattle.std.specs.Options.{Cases as BySome, mapped};
 ghost use Rattle.std.specs.declared.option.Option.the-variants.{None};
@@ -14,23 +14,19 @@ ghost use Rattle.rules.specs.Server.{isReady};
 ghost use Rattle.rules.specs.Setup.{lastTick};
 ghost use Rattle.rules.specs.System.{liveLimit};
 ghost use Rattle.table.specs.Calls.{ticked};
-ghost use Rattle.table.specs.Keys.{filedOn, lessOn, waitingOn, Sized};
 ghost use Rattle.table.specs.Rows.{fit};
 ghost use Rattle.table.specs.Sound.{live, RowOf, Sound};
-use crate::keys::Key;
 use crate::keys::Queue;
-use crate::server::Event;
-use crate::server::change;
+use crate::ready::file;
+use crate::ready::same_key;
+use crate::ready::unfile;
+use crate::server::Picks;
+use crate::server::pass_tick;
 use rules::Reservation;
 use rules::State;
 
-// The name dealt for each of eight cores, or none.
-#[derive(Clone, Copy)]
-pub struct Picks {
-    pub names: [Option<u32>; 8],
-}
-
 // The clock, the live reservations in the first `count` rows, and each core's ready queue.
+#[derive(Drop)]
 pub struct Inner {
     pub clock: u32,
     pub count: usize,
@@ -181,63 +177,4 @@ impl Inner {
             None => None,
         }
     }
-}
-
-// Whether two rows stand alike in the queues.
-fn same_key(x: &Reservation, y: &Reservation) -> bool
-    ensures { λ r. ⌜ (r ≡ true → (c : ℕ) → (ks : List Key) → filedOn c (now (x .entry)) ks ≡ filedOn c (now (y .entry)) ks) ⌝ }
-{
-    is_ready(x) == is_ready(y)
-        && x.core == y.core
-        && x.deadline == y.deadline
-        && x.number == y.number
-}
-
-fn is_ready(row: &Reservation) -> bool
-    ensures { λ r. ⌜ r ≡ isReady (now (row .entry) .state) ⌝ }
-{
-    match row.state {
-        State::Ready => true,
-        State::Spent | State::Resting => false,
-    }
-}
-
-// Files the key of a ready row in the queue of its core.
-fn file(ready: &mut [Queue; 8], row: &Reservation)
-    requires sized { ⌜ Sized (now ready) ⌝ }
-    requires core { ⌜ now row .core < 8 ⌝ }
-    requires room { ⌜ length (waitingOn (now row .core) (now ready)) < 64 ⌝ }
-    ensures sized { λ _. ⌜ Sized (now (ready .exit)) ⌝ }
-    ensures next { λ _. ⌜ ((c : ℕ) → c < 8 → waitingOn c (now (ready .exit)) ≡ filedOn c (now (row .entry)) (waitingOn c (now (ready .entry)))) ⌝ }
-{
-    if is_ready(row) {
-        ready[row.core as usize].put(Key::of(row));
-    }
-}
-
-// Takes the key of a ready row out of the queue of its core.
-fn unfile(ready: &mut [Queue; 8], row: &Reservation)
-    requires sized { ⌜ Sized (now ready) ⌝ }
-    requires core { ⌜ now row .core < 8 ⌝ }
-    ensures sized { λ _. ⌜ Sized (now (ready .exit)) ⌝ }
-    ensures next { λ _. ⌜ ((c : ℕ) → c < 8 → waitingOn c (now (ready .exit)) ≡ lessOn c (now (row .entry)) (waitingOn c (now (ready .entry)))) ⌝ }
-{
-    if is_ready(row) {
-        ready[row.core as usize].take(Key::of(row));
-    }
-}
-
-// Charges a row where it is the one named for its core, and then fills it where it is due.
-fn pass_tick(row: &mut Reservation, picks: &Picks, clock: u32)
-    requires low { ⌜ 1 ≤ clock ⌝ }
-    requires high { ⌜ clock ≤ lastTick ⌝ }
-    requires fits { ⌜ fit (clock - 1) (now row) ≡ true ⌝ }
-    ensures { λ _. ⌜ now (row .exit) ≡ ticked (now (picks .entry) .names) clock (now (row .entry)) ⌝ }
-{
-    if let Some(number) = picks.names[row.core as usize] {
-        if number == row.number {
-            let _ = change(row, Event::Charge, clock);
-        }
-    }
-    let _ = change(row, Event::Refill, clock);
 }

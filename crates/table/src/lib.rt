@@ -2,9 +2,10 @@
 mod inner;
 mod keys;
 mod live;
+mod ready;
 mod server;
 
-pub use inner::Picks;
 pub use live::Table;
+pub use server::Picks;
 pub use server::is_behind;
 pub use server::lapse;

@@ -1,14 +1,21 @@
 // The constant bandwidth server of one reservation.
 ghost use mathlib.Core.Path.{_≡_};
 ghost use mathlib.Core.Bool.{true};
-ghost use Prim.Native.Nat.{_≤_};
+ghost use Prim.Native.Nat.{_-_, _≤_};
 ghost use Rattle.rules.specs.Setup.{lastTick};
-ghost use Rattle.rules.specs.Server.{charged, filledTo, isBehind, keeps, lapse as lapseTick, wanting, woken};
+ghost use Rattle.rules.specs.Server.{charged, filledTo, isBehind, isReady, keeps, lapse as lapseTick, wanting, woken};
+ghost use Rattle.table.specs.Calls.{ticked};
 ghost use Rattle.table.specs.Events.{verdict, afterEvent};
 ghost use Rattle.table.specs.Rows.{fit};
 use rules::Reservation;
 use rules::State;
 use terms::Refusal;
+
+// The name dealt for each of eight cores, or none.
+#[derive(Clone, Copy)]
+pub struct Picks {
+    pub names: [Option<u32>; 8],
+}
 
 // What happens to a reservation.
 #[derive(Clone, Copy)]
@@ -39,6 +46,21 @@ pub fn change(row: &mut Reservation, event: Event, clock: u32) -> Result<(), Ref
         (_, Event::Refill) => {}
     }
     Ok(())
+}
+
+// Charges a row where it is the one named for its core, and then fills it where it is due.
+pub fn pass_tick(row: &mut Reservation, picks: &Picks, clock: u32)
+    requires low { ⌜ 1 ≤ clock ⌝ }
+    requires high { ⌜ clock ≤ lastTick ⌝ }
+    requires fits { ⌜ fit (clock - 1) (now row) ≡ true ⌝ }
+    ensures { λ _. ⌜ now (row .exit) ≡ ticked (now (picks .entry) .names) clock (now (row .entry)) ⌝ }
+{
+    if let Some(number) = picks.names[row.core as usize] {
+        if number == row.number {
+            let _ = change(row, Event::Charge, clock);
+        }
+    }
+    let _ = change(row, Event::Refill, clock);
 }
 
 // Keeps budget and deadline where the budget left is below the reserved share of the time to the deadline, else fills it.
@@ -85,6 +107,15 @@ fn wanting(left: u32) -> State
         State::Spent
     } else {
         State::Ready
+    }
+}
+
+pub fn is_ready(row: &Reservation) -> bool
+    ensures { λ r. ⌜ r ≡ isReady (now (row .entry) .state) ⌝ }
+{
+    match row.state {
+        State::Ready => true,
+        State::Spent | State::Resting => false,
     }
 }
 

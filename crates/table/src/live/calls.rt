@@ -1,15 +1,14 @@
 // The calls on a table: a refusal leaves it as it was.
 ghost use mathlib.Core.Path.{_≡_};
 ghost use mathlib.Core.Bool.{true};
-ghost use mathlib.Core.List.{[]};
 ghost use Rattle.std.specs.Results.{isErr};
 ghost use Rattle.rules.specs.Lists.{without};
 ghost use Rattle.table.specs.Calls.{opening, newcomer, admitAnswer, admitLive, wakeAnswer, wakeLive, restAnswer, restLive, removeAnswer, transferAnswer, transferLive, tickAnswer, tickClock, tickLive};
 ghost use Rattle.table.specs.View.{clockOf, liveOf, shown};
 use super::Table;
 use crate::inner::Inner;
-use crate::inner::Picks;
 use crate::server::Event;
+use crate::server::Picks;
 use crate::server::change;
 use rules::Reservation;
 use rules::State;

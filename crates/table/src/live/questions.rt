@@ -10,7 +10,7 @@ ghost use Rattle.rules.specs.System.{liveLimit};
 ghost use Rattle.table.specs.Calls.{dealt};
 ghost use Rattle.table.specs.View.{clockOf, liveOf};
 use super::Table;
-use crate::inner::Picks;
+use crate::server::Picks;
 use rules::Reservation;
 
 impl Table {
@@ -43,7 +43,7 @@ impl Table {
     pub fn row(&self, index: usize) -> Option<Reservation>
         ensures { λ r. ⌜ r ≡ nth (liveOf (now (self .entry))) index ⌝ }
     {
-        if index < self.inner.count {
+        if index < self.len() {
             Some(self.inner.rows[index])
         } else {
             None

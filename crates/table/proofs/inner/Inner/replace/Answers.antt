@@ -1,4 +1,4 @@
-use mathlib.Core.Path.{refl, sym, ap, _∙_}
+use mathlib.Core.Path.{refl, ap, _∙_}
 use Rattle.table.specs.Keys.{filedOn}
 use Rattle.table.specs.Sound.{live}
 use Rattle.table.proofs.Fits.{fit-core}

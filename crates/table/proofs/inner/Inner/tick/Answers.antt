@@ -1,10 +1,8 @@
-use mathlib.Core.Path.{_≡_, refl, sym, subst, _∙_}
-use mathlib.Core.Bool.{true}
+use mathlib.Core.Path.{refl, _∙_}
 use Prim.Native.Nat.{_+_, _≤_}
 use native.Mathlib.Omega.{arith}
 use lib.ListN.{length}
 use Rattle.table.specs.Calls.{ticked}
-use Rattle.table.specs.Rows.{fit}
 use Rattle.table.specs.Sound.{live}
 use Rattle.table.proofs.Passing.{all-over, fit-before, fit-after, over-more}
 use Rattle.table.proofs.Upkeep.{length-live, sound-later}
@@ -25,11 +23,10 @@ pass-tick-requires c κs =
 pub replace-requires : need.replace-requires
 replace-requires c κs =
     let inv = c .loop-place .inv in
-    let after = fit-after (c .args .picks .now .names) (c .args .self .now) (c .loop-place .self) (c .pre .sound) (inv .0) (c .loop-place .place) (c .loop-place-test .taken) (inv .1) (inv .2) (inv .3) _ in
     record {
       sound = inv .0;
       within = omega (arith, inv .2);
-      fits = subst (λ r. fit (c .loop-place .self .clock) r ≡ true) (sym (c .pass-tick .ensures)) after;
+      fits = fit-after (c .args .picks .now .names) (c .args .self .now) (c .loop-place .self) (c .pre .sound) (inv .0) (c .loop-place .place) (c .loop-place-test .taken) (inv .1) (inv .2) (inv .3) _ (c .pass-tick .last .row) (c .pass-tick .ensures);
     }
 
 pub loop-place-again : need.loop-place-again

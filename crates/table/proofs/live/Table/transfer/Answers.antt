@@ -1,4 +1,5 @@
-use Rattle.table.proofs.Fits.{fit-onCore}
+use native.Mathlib.Omega.{arith}
+use Rattle.std.proofs.shelf.Ways.{tells}
 use Rattle.table.proofs.Tables.{sound-of}
 use Rattle.table.proofs.live.Table.transfer.Needs as need
 
@@ -11,5 +12,5 @@ replace-requires c κs =
     record {
       sound = sound-of (c .args .self .now);
       within = found .within;
-      fits = fit-onCore (c .args .self .now .inner .clock) (c .in-Some .row) (c .args .core) (found .fits) (c .if-core-ge8 .left);
+      fits = grind (arith, tells, found .fits, c .if-core-ge8 .left);
     }

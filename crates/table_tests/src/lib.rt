@@ -1,0 +1,3 @@
+// Trials of the table: its limits, the figures of waking, lapsing and moving, and ties.
+#[cfg(test)]
+mod tests;
