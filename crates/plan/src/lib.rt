@@ -1,0 +1,12 @@
+// Plan files, read exactly: a header, then events of eight bytes each.
+mod fault;
+mod field;
+
+pub use fault::BitFault;
+pub use fault::Cause;
+pub use fault::Flaw;
+pub use fault::Layer;
+pub use fault::PlanFault;
+pub use fault::PlanFaultDisplay;
+pub use fault::RecordFault;
+pub use fault::Spot;
