@@ -1,6 +1,6 @@
 -- Lemmas on bits and fields.
 use mathlib.Core.Path.{_≡_, refl, sym, ap, _∙_}
-use mathlib.Core.Bool.{true, false}
+use mathlib.Core.Logic.{⊎-elim}
 use mathlib.Core.List.{List}
 use Prim.Native.Nat.{ℕ, zero, suc, _+_, _-_, _*_, _/_, _%_, _^_, _≤_, _<_}
 use native.Mathlib.Nat.{add-assoc, add-suc, add-zero, mul-assoc, pow-suc}
@@ -10,7 +10,7 @@ use lib.Dec.{leb}
 use lib.Pow.{pow-mono}
 use lib.ListN.{length, getD}
 use Rattle.std.proofs.shelf.Bits.{pow-pos, pow-add, mod-below}
-use Rattle.std.proofs.shelf.Tests.{le-leb, lt-leb, leb-true}
+use Rattle.std.proofs.shelf.Tests.{le-leb, lt-leb, cases-lt}
 use Rattle.std.specs.declared.result.Result.{Result}
 use Rattle.std.specs.declared.result.Result.the-variants.{Ok, Err}
 use Rattle.plan.specs.declared.fault.Spot.{Spot}
@@ -55,3 +55,11 @@ field-whole bs o i w h = rw (le-leb (i + w) (8 * length bs) h)
 pub field-cut : (bs : List ℕ) (o : Spot) (i w : ℕ) → 8 * length bs < i + w → fieldOf bs o i w ≡ Err (short (spotOf o i))
 unfolding fieldOf
 field-cut bs o i w h = rw (lt-leb (i + w) (8 * length bs) h)
+
+-- A field that is complete lies within the bytes.
+pub field-fits : (bs : List ℕ) (o : Spot) (i w v : ℕ) → fieldOf bs o i w ≡ Ok v → i + w ≤ 8 * length bs
+field-fits bs o i w v h =
+    ⊎-elim
+    (λ short. let z : _≡_ {A = ℕ} 0 1 = cc (field-cut bs o i w short) in absurd (omega arith))
+    (λ long. long)
+    (cases-lt (8 * length bs) (i + w))

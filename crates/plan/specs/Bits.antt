@@ -6,6 +6,8 @@ use lib.Dec.{leb}
 use lib.ListN.{length, getD}
 use Rattle.std.specs.declared.result.Result.{Result}
 use Rattle.std.specs.declared.result.Result.the-variants.{Ok, Err}
+use Rattle.std.specs.declared.option.Option.{Option}
+use Rattle.std.specs.declared.option.Option.the-variants.{Some, None}
 use Rattle.plan.specs.declared.fault.Spot.{Spot}
 use Rattle.plan.specs.Faults.{Fault, short}
 
@@ -35,3 +37,8 @@ then (Err e) f = Err e
 abbrev pub given : {A : Type 0} → Bool → Fault → Result A Fault → Result A Fault
 given true e r = r
 given false e r = Err e
+
+-- Go on with what the number names, else tell the fault.
+abbrev pub named : {A : Type 0} → Option A → Fault → Result A Fault
+named (Some x) e = Ok x
+named None e = Err e

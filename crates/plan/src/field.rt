@@ -3,8 +3,10 @@ ghost use mathlib.Core.Path.{_≡_};
 ghost use Prim.Native.Nat.{_+_, _*_, _^_, _≤_, _<_};
 ghost use lib.ListN.{length};
 ghost use Rattle.plan.specs.Bits.{bit as bitOf, bits as bitsOf, fieldOf, spotOf};
-ghost use Rattle.plan.specs.Faults.{told, bitTold};
+ghost use Rattle.plan.specs.Faults.{told, bitTold, recordTold, wrong};
 use crate::fault::BitFault;
+use crate::fault::Flaw;
+use crate::fault::RecordFault;
 use crate::fault::Spot;
 
 fn bit(bytes: &[u8], i: usize) -> u8
@@ -50,4 +52,13 @@ pub(crate) fn field(bytes: &[u8], start: Spot, i: usize, width: usize) -> Result
         return Err(BitFault { at: spot(start, i) });
     }
     Ok(bits(bytes, i, width))
+}
+
+// The fault of the complete field that starts at bit i.
+pub(crate) fn flawed(flaw: Flaw, start: Spot, i: usize) -> RecordFault
+    requires near { ⌜ i ≤ 1000 ⌝ }
+    requires low { ⌜ start .byte < 2 ^ 32 ⌝ }
+    ensures { λ r. ⌜ recordTold r ≡ wrong flaw (spotOf start i) ⌝ }
+{
+    RecordFault::Field(flaw, spot(start, i))
 }

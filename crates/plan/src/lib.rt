@@ -1,6 +1,7 @@
 // Plan files, read exactly: a header, then events of eight bytes each.
 mod fault;
 mod field;
+mod header;
 
 pub use fault::BitFault;
 pub use fault::Cause;
@@ -10,3 +11,6 @@ pub use fault::PlanFault;
 pub use fault::PlanFaultDisplay;
 pub use fault::RecordFault;
 pub use fault::Spot;
+pub use header::Header;
+pub use header::MeasureKind;
+pub use header::PolicyKind;
