@@ -9,7 +9,7 @@ use native.Mathlib.Omega.{arith}
 use lib.Dec.{leb}
 use lib.Pow.{pow-mono}
 use lib.ListN.{length, getD}
-use Rattle.std.proofs.shelf.Bits.{pow-pos, pow-add, mod-below}
+use Rattle.std.proofs.shelf.Bits.{pow-add, mod-below, mod-pow-add, shr-shr}
 use Rattle.std.proofs.shelf.Tests.{le-leb, lt-leb, cases-lt}
 use Rattle.std.specs.declared.result.Result.{Result}
 use Rattle.std.specs.declared.result.Result.the-variants.{Ok, Err}
@@ -63,3 +63,44 @@ field-fits bs o i w v h =
     (λ short. let z : _≡_ {A = ℕ} 0 1 = cc (field-cut bs o i w short) in absurd (omega arith))
     (λ long. long)
     (cases-lt (8 * length bs) (i + w))
+
+-- Bit j of byte k.
+pub bit-at : (bs : List ℕ) (k j i : ℕ) → i ≡ 8 * k + j → j < 8 → bit bs i ≡ getD bs k 0 / 2 ^ (7 - j) % 2
+unfolding bit
+bit-at bs k j i e h =
+    let q : i / 8 ≡ k = omega arith in
+    let r : i % 8 ≡ j = omega arith in
+    rw (q, r)
+
+-- Bits that lie within byte k, from its bit j on.
+pub within-byte : (bs : List ℕ) (k j i w : ℕ) → i ≡ 8 * k + j → j + w ≤ 8 → bits bs i w ≡ getD bs k 0 / 2 ^ (8 - (j + w)) % 2 ^ w
+unfolding bits
+within-byte bs k j i zero e h = omega arith
+within-byte bs k j i (suc w) e h =
+    let s : ℕ = 7 - (j + w) in
+    let more : 8 - (j + w) ≡ s + 1 = omega arith in
+    let here : 8 - (j + suc w) ≡ s = omega arith in
+    let front = within-byte bs k j i w e (omega arith) in
+    let last = bit-at bs k (j + w) (i + w) (omega arith) (omega arith) in
+    rw (front, last, more, here, ← shr-shr (getD bs k 0) s 1, ← add-one w) (sym (mod-pow-add (getD bs k 0 / 2 ^ s) w 1))
+
+-- The upper half, the lower half and the whole of byte k, which starts at bit i.
+module _ (bs : List ℕ) (k i : ℕ) (byte : getD bs k 0 < 256) where
+  pub upper-half : i ≡ 8 * k → bits bs i 4 ≡ getD bs k 0 / 16
+  upper-half e = omega (arith, within-byte bs k 0 i 4 (omega arith) (omega arith))
+
+  pub lower-half : i ≡ 8 * k + 4 → bits bs i 4 ≡ getD bs k 0 % 16
+  lower-half e = omega (arith, within-byte bs k 4 i 4 (omega arith) (omega arith))
+
+  pub whole-byte : i ≡ 8 * k → bits bs i 8 ≡ getD bs k 0
+  whole-byte e = omega (arith, within-byte bs k 0 i 8 (omega arith) (omega arith))
+
+-- The 20 bits from the lower half of byte k on, and from byte k on.
+module _ (bs : List ℕ) (k i : ℕ) (b0 : getD bs k 0 < 256) (b1 : getD bs (k + 1) 0 < 256) (b2 : getD bs (k + 2) 0 < 256) where
+  pub twenty-from-half : i ≡ 8 * k + 4 → bits bs i 20 ≡ (getD bs k 0 % 16) * 65536 + getD bs (k + 1) 0 * 256 + getD bs (k + 2) 0
+  twenty-from-half e =
+      omega (arith, bits-split bs i 4 16, bits-split bs (i + 4) 8 8, lower-half bs k i b0 e, whole-byte bs (k + 1) (i + 4) b1 (omega arith), whole-byte bs (k + 2) (i + 4 + 8) b2 (omega arith))
+
+  pub twenty-from-byte : i ≡ 8 * k → bits bs i 20 ≡ getD bs k 0 * 4096 + getD bs (k + 1) 0 * 16 + getD bs (k + 2) 0 / 16
+  twenty-from-byte e =
+      omega (arith, bits-split bs i 8 12, bits-split bs (i + 8) 8 4, whole-byte bs k i b0 e, whole-byte bs (k + 1) (i + 8) b1 (omega arith), upper-half bs (k + 2) (i + 8 + 8) b2 (omega arith))

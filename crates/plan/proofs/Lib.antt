@@ -1,2 +1,3 @@
 pub mod Fields
 mod Bounds
+mod Whole

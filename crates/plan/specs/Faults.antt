@@ -78,6 +78,11 @@ abbrev pub told : {T E : Type 0} → (E → Fault) → Result T E → Result T F
 told f (Ok x) = Ok x
 told f (Err e) = Err (f e)
 
+-- An answer with its value as seen through f.
+abbrev pub shown : {A B : Type 0} → (A → B) → Result A Fault → Result B Fault
+shown f (Ok x) = Ok (f x)
+shown f (Err e) = Err e
+
 -- The line that a fault prints.
 abbrev pub faultLine : Fault → List ℕ
 faultLine f =

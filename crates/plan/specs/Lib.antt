@@ -1,3 +1,4 @@
 pub mod Faults
 pub mod Bits
 pub mod Headers
+pub mod Records

@@ -1,8 +1,12 @@
 // Plan files, read exactly: a header, then events of eight bytes each.
+mod event;
 mod fault;
 mod field;
 mod header;
 
+pub use event::Event;
+pub use event::Kind;
+pub use event::Source;
 pub use fault::BitFault;
 pub use fault::Cause;
 pub use fault::Flaw;
