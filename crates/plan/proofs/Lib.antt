@@ -1,3 +1,4 @@
 pub mod Fields
 mod Bounds
 mod Whole
+mod Steps

@@ -2,3 +2,4 @@ pub mod Faults
 pub mod Bits
 pub mod Headers
 pub mod Records
+pub mod Plans

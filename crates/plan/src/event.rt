@@ -69,6 +69,21 @@ pub enum Event<'a> {
     },
 }
 
+impl Event<'_> {
+    pub fn kind(self) -> Kind
+        ensures { λ r. ⌜ r ≡ rowOf (self .entry) .kind ⌝ }
+    {
+        match self {
+            Event::Admit { .. } => Kind::Admit,
+            Event::Wake { .. } => Kind::Wake,
+            Event::Rest { .. } => Kind::Rest,
+            Event::Leave { .. } => Kind::Leave,
+            Event::Move { .. } => Kind::Move,
+            Event::End { .. } => Kind::End,
+        }
+    }
+}
+
 // A record's four fields.
 #[derive(Clone, Copy)]
 struct Figures {

@@ -1,5 +1,6 @@
 // Plan files, read exactly: a header, then events of eight bytes each.
 mod event;
+mod events;
 mod fault;
 mod field;
 mod header;
@@ -7,6 +8,8 @@ mod header;
 pub use event::Event;
 pub use event::Kind;
 pub use event::Source;
+pub use events::Events;
+pub use events::read_header;
 pub use fault::BitFault;
 pub use fault::Cause;
 pub use fault::Flaw;
