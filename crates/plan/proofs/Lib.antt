@@ -1,4 +1,5 @@
 pub mod Fields
 mod Bounds
-mod Whole
+mod Complete
 mod Steps
+mod Gathered

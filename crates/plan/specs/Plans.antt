@@ -11,12 +11,12 @@ use Rattle.std.specs.declared.option.Option.{Option}
 use Rattle.std.specs.declared.option.Option.the-variants.{Some, None}
 use Rattle.std.specs.declared.result.Result.{Result}
 use Rattle.std.specs.declared.result.Result.the-variants.{Ok, Err}
-use Rattle.plan.specs.declared.fault.PlanFault.{PlanFault}
 use Rattle.plan.specs.declared.fault.Spot.{Spot}
-use Rattle.plan.specs.declared.event.Event.{Event}
 use Rattle.plan.specs.declared.event.Kind.{Kind}
 use Rattle.plan.specs.declared.header.Header.{Header}
 use Rattle.plan.specs.declared.events.Events.{Events}
+use Rattle.plan.specs.declared.reading.Plan.{Plan}
+use Rattle.plan.specs.declared.reading.PlanError.{PlanError}
 use Rattle.plan.specs.Bits.{spotOf, then, given}
 use Rattle.plan.specs.Faults.{Fault, tooLong, trailing, planTold, told, shown}
 use Rattle.plan.specs.Headers.{headerLength, headerOf}
@@ -76,6 +76,11 @@ passed s (Err e) = s
 abbrev pub afterOf : Reader → Reader
 afterOf s = cond (s .ended) s (passed s (stepOf (s .rest) (nextSpot s)))
 
+-- A reader at the first event: the bytes to come follow the header.
+pub record Fresh (s : Reader) : Type 0 where
+  pub opened : s .ended ≡ false
+  pub whole : s .length ≡ s .first + length (s .rest)
+
 -- An opened plan: its header, and the reader of the events after it.
 abbrev pub readerAt : List ℕ → Header → Reader
 readerAt bs h =
@@ -84,3 +89,30 @@ readerAt bs h =
 -- The longest plan has 65,536 bytes.
 abbrev pub openOf : List ℕ → Result (Header × Reader) Fault
 openOf bs = given (leb (length bs) 65536) tooLong (then (headerOf bs) (λ h. Ok (h, readerAt bs h)))
+
+-- What a plan says: its header, and its events in their order.
+pub record Contents : Type 0 where
+  pub header : Header
+  pub events : List Row
+
+-- The first event is record 1, right after the header.
+abbrev pub firstSpot : ℕ → Spot
+firstSpot place = record { byte = place; number = 1 }
+
+-- A plan is a fault, or a header and events. A record has eight bytes, so there are fewer records than bytes.
+abbrev pub planOf : List ℕ → Result Contents Fault
+planOf bs =
+    given (leb (length bs) 65536) tooLong (
+    then (headerOf bs) (λ h.
+    then (eventsOf (suc (length bs)) (drop (headerLength (h .cores)) bs) (firstSpot (headerLength (h .cores)))) (λ es.
+    Ok (record { header = h; events = es }))))
+
+-- What the code's plan holds.
+abbrev pub contentsOf : Plan → Contents
+contentsOf p = record { header = p .header; events = map rowOf (vec-items (p .events)) }
+
+-- The answer is w, its value seen through f, unless memory fails.
+abbrev pub Answers : {A B : Type 0} → (A → B) → Result A PlanError → Result B Fault → Type 0
+Answers f (Ok x) w = Ok (f x) ≡ w
+Answers f (Err (PlanError.Fault e)) w = Err (planTold e) ≡ w
+Answers f (Err PlanError.Memory) w = Unit {0}

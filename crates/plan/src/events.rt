@@ -6,7 +6,7 @@ ghost use Rattle.std.specs.Options.{mapped};
 ghost use Rattle.std.specs.Vec.{made};
 ghost use Rattle.plan.specs.Faults.{told, shown, planTold};
 ghost use Rattle.plan.specs.Records.{rowOf};
-ghost use Rattle.plan.specs.Plans.{readerOf, isEnd, placed, stepOf, nextSpot, openOf, nextOf, afterOf};
+ghost use Rattle.plan.specs.Plans.{readerOf, isEnd, placed, stepOf, nextSpot, Fresh, openOf, nextOf, afterOf};
 use crate::event::Event;
 use crate::event::Kind;
 use crate::event::read_event;
@@ -29,7 +29,8 @@ pub struct Events<'a> {
 
 // The header of a plan, and the reader of its events.
 pub fn read_header<'a>(bytes: &'a [u8]) -> Result<(Header, Events<'a>), PlanFault>
-    ensures { λ r. ⌜ shown (λ p. (p .0, readerOf (p .1))) (told planTold r) ≡ openOf (now (bytes .entry)) ⌝ }
+    ensures answer { λ r. ⌜ shown (λ p. (p .0, readerOf (p .1))) (told planTold r) ≡ openOf (now (bytes .entry)) ⌝ }
+    ensures fresh { λ r. ⌜ made r (λ p. Fresh (readerOf (p .1))) ⌝ }
 {
     if bytes.len() > 65_536 {
         return Err(PlanFault::TooLong);

@@ -4,6 +4,7 @@ mod events;
 mod fault;
 mod field;
 mod header;
+mod reading;
 
 pub use event::Event;
 pub use event::Kind;
@@ -21,3 +22,6 @@ pub use fault::Spot;
 pub use header::Header;
 pub use header::MeasureKind;
 pub use header::PolicyKind;
+pub use reading::Plan;
+pub use reading::PlanError;
+pub use reading::read_plan;

@@ -1,7 +1,7 @@
 use mathlib.Core.Path.{sym, ap, _∙_}
 use Rattle.std.specs.declared.result.Result.the-variants.{Ok, Err}
 use Rattle.plan.specs.Records.{rowWith}
-use Rattle.plan.proofs.Whole.{no-kind, bad-a, bad-b, good}
+use Rattle.plan.proofs.Complete.{no-kind, bad-a, bad-b, good}
 use Rattle.plan.proofs.event.read_event.Needs as need
 
 pub returns-in-rest-kind-of : need.returns-in-rest-kind-of
