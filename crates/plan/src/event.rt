@@ -82,6 +82,35 @@ impl Event<'_> {
             Event::End { .. } => Kind::End,
         }
     }
+
+    pub fn gap(self) -> u32
+        ensures { λ r. ⌜ r ≡ rowOf (self .entry) .gap ⌝ }
+    {
+        match self {
+            Event::Admit { gap, .. } => gap,
+            Event::Wake { gap, .. } => gap,
+            Event::Rest { gap, .. } => gap,
+            Event::Leave { gap, .. } => gap,
+            Event::Move { gap, .. } => gap,
+            Event::End { gap, .. } => gap,
+        }
+    }
+}
+
+impl<'a> Event<'a> {
+    // The bytes that the event came from, and their place.
+    pub fn source(self) -> Source<'a>
+        ensures { λ r. ⌜ (now (r .bytes) ≡ rowOf (self .entry) .bytes) × (r .place ≡ rowOf (self .entry) .place) ⌝ }
+    {
+        match self {
+            Event::Admit { source, .. } => source,
+            Event::Wake { source, .. } => source,
+            Event::Rest { source, .. } => source,
+            Event::Leave { source, .. } => source,
+            Event::Move { source, .. } => source,
+            Event::End { source, .. } => source,
+        }
+    }
 }
 
 // A record's four fields.

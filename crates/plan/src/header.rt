@@ -1,7 +1,7 @@
 // The header: marks, setup, start, a bound for each core, and filling.
 ghost use mathlib.Core.Path.{_≡_};
-ghost use Prim.Native.Nat.{_≤_, _<_};
-ghost use lib.ListN.{length};
+ghost use Prim.Native.Nat.{min, _≤_, _<_};
+ghost use lib.ListN.{length, take};
 ghost use Rattle.std.specs.Vec.{made};
 ghost use Rattle.plan.specs.Faults.{told, recordTold};
 ghost use Rattle.plan.specs.Headers.{marksOf, measureOf, policyOf, setupOf, startOf, boundOf, boundsOf, headerLength, fillingOf, headerOf};
@@ -33,6 +33,16 @@ pub struct Header {
     pub policy: PolicyKind,
     pub start: u32,
     pub bounds: [u16; 8],
+}
+
+impl Header {
+    // The bounds of the cores alone, in core order.
+    pub fn core_bounds(&self) -> &[u16]
+        ensures { λ r. ⌜ now r ≡ take (min (now (self .entry) .cores) 8) (now (self .entry) .bounds) ⌝ }
+    {
+        let count = (self.cores as usize).min(8);
+        &self.bounds[0..count]
+    }
 }
 
 #[derive(Clone, Copy)]
