@@ -3,6 +3,7 @@ use mathlib.Core.Path.{_≡_}
 use mathlib.Core.Bool.{Bool, true, false, cond}
 use mathlib.Core.List.{List}
 use Prim.Native.Nat.{ℕ, _≤_}
+use lib.Chars.{codes}
 use lib.Dec.{eqb}
 use lib.ListN.{length, take, drop}
 use Rattle.std.specs.declared.option.Option.{Option}
@@ -23,6 +24,15 @@ abbrev pub kindOf : ℕ → Option Kind
 kindOf n =
     cond (eqb n 1) (Some Kind.Admit) (cond (eqb n 2) (Some Kind.Wake) (cond (eqb n 3) (Some Kind.Rest) (
     cond (eqb n 4) (Some Kind.Leave) (cond (eqb n 5) (Some Kind.Move) (cond (eqb n 6) (Some Kind.End) None)))))
+
+-- The word of each kind.
+abbrev pub kindWord : Kind → List ℕ
+kindWord Kind.Admit = codes "admit"
+kindWord Kind.Wake = codes "wake"
+kindWord Kind.Rest = codes "rest"
+kindWord Kind.Leave = codes "leave"
+kindWord Kind.Move = codes "move"
+kindWord Kind.End = codes "end"
 
 -- An end has no A.
 abbrev pub lacksA : Kind → Bool

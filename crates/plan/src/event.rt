@@ -7,7 +7,7 @@ ghost use Rattle.std.specs.Options.{Cases};
 ghost use Rattle.std.specs.Vec.{made};
 ghost use Rattle.std.specs.declared.result.Result.the-variants.{Err};
 ghost use Rattle.plan.specs.Faults.{told, shown, recordTold};
-ghost use Rattle.plan.specs.Records.{kindOf, lacksA, lacksB, proper, Unpacked, frontOf, eventOf, rowOf, rowWith};
+ghost use Rattle.plan.specs.Records.{kindOf, kindWord, lacksA, lacksB, proper, Unpacked, frontOf, eventOf, rowOf, rowWith};
 use crate::fault::BitFault;
 use crate::fault::Flaw;
 use crate::fault::RecordFault;
@@ -25,6 +25,21 @@ pub enum Kind {
     Leave,
     Move,
     End,
+}
+
+impl Kind {
+    pub fn word(self) -> &'static str
+        ensures { λ r. ⌜ now r ≡ kindWord self ⌝ }
+    {
+        match self {
+            Kind::Admit => "admit",
+            Kind::Wake => "wake",
+            Kind::Rest => "rest",
+            Kind::Leave => "leave",
+            Kind::Move => "move",
+            Kind::End => "end",
+        }
+    }
 }
 
 // The eight bytes that an event came from, and the place of the first in the plan.
