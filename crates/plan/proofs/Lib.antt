@@ -1,0 +1,5 @@
+pub mod Fields
+mod Bounds
+mod Complete
+mod Steps
+mod Gathered

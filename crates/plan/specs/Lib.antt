@@ -1,0 +1,5 @@
+pub mod Faults
+pub mod Bits
+pub mod Headers
+pub mod Records
+pub mod Plans

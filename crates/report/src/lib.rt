@@ -1,0 +1,7 @@
+// From a plan's bytes to the lines of its report.
+mod line;
+mod lines;
+
+pub use line::Line;
+pub use line::LineDisplay;
+pub use lines::report;
