@@ -27,7 +27,7 @@ getD-roomsFrom σ c (b ∷ bs) (suc k) =
     getD-roomsFrom σ (suc c) bs k ∙ ap (λ (d : ℕ). getD bs k 0 - counted σ d) (omega arith)
 
 -- The room of core c in the list of rooms.
-getD-rooms : (s : Setup) (σ : System) (c : ℕ) → getD (rooms s σ) c 0 ≡ room s σ c
+pub getD-rooms : (s : Setup) (σ : System) (c : ℕ) → getD (rooms s σ) c 0 ≡ room s σ c
 getD-rooms s σ c = getD-roomsFrom σ 0 (bounds s) c ∙ ap (λ (d : ℕ). bound s c - counted σ d) (zero-add c)
 
 -- A core that the policy names has room for the parts sought.

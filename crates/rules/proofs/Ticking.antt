@@ -35,14 +35,14 @@ use Rattle.rules.proofs.Credits.{Measured, owed, held, credit, due, lapsed, pa
 use Rattle.rules.proofs.Demand.{Demand, owedBy, heldBy, creditBy, countedFor, measured-by, stocked-by}
 
 -- A bound is at most the whole.
-bounds-high : (w : ℕ) (bs : List ℕ) (c : ℕ) → figuresFit bs ≡ true → getD (map (λ b. w * b / 1000) bs) c 0 ≤ w
+pub bounds-high : (w : ℕ) (bs : List ℕ) (c : ℕ) → figuresFit bs ≡ true → getD (map (λ b. w * b / 1000) bs) c 0 ≤ w
 bounds-high w [] c h = omega arith
 bounds-high w (b ∷ bs) ℕ.zero h =
     let fit : b ≤ 1000 = grind (arith, tells) in
     omega (arith, mul-le-mul-left w fit)
 bounds-high w (b ∷ bs) (suc c) h = bounds-high w bs c (and-parts _ _ h .1)
 
-figures-fit : (bs : List ℕ) (start : ℕ) → making bs start ≡ None → figuresFit bs ≡ true
+pub figures-fit : (bs : List ℕ) (start : ℕ) → making bs start ≡ None → figuresFit bs ≡ true
 figures-fit bs start h = grind (arith, tells)
 
 bound-high : (s : Setup) → Lawful s → (c : ℕ) → bound s c ≤ s .whole

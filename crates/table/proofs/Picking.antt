@@ -63,7 +63,7 @@ picks-push rs zero c m is =
 picks-push rs (suc n) c m is =
     ap (λ ns. mapped (λ r. r .number) (pick c rs) ∷ ns) (picks-push rs n (suc c) m (omega arith))
 
-length-picks : (rs : List Reservation) (n c : ℕ) → length (picksFrom c n rs) ≡ n
+pub length-picks : (rs : List Reservation) (n c : ℕ) → length (picksFrom c n rs) ≡ n
 length-picks rs zero c = refl
 length-picks rs (suc n) c = ap suc (length-picks rs n (suc c))
 

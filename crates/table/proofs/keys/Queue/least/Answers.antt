@@ -3,4 +3,4 @@ use Rattle.table.proofs.keys.Queue.least.Needs as need
 
 pub returns : need.returns
 unfolding waiting
-returns c = c .least .ensures
+returns c = c .least .ensures .answer
