@@ -8,7 +8,7 @@ use native.Mathlib.Omega.{arith}
 use lib.ListN.{set, replicate}
 use Rattle.std.proofs.shelf.Tests.{cases-eq}
 use Rattle.std.specs.declared.result.Result.the-variants.{Ok, Err}
-use Rattle.plan.specs.Faults.{Fault}
+use Rattle.fault.specs.Faults.{Fault}
 use Rattle.plan.specs.Headers.{boundOf, boundsOf}
 
 module _ (bs : List ℕ) where

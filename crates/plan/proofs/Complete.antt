@@ -7,12 +7,12 @@ use native.Mathlib.Omega.{arith}
 use lib.ListN.{length, take}
 use Rattle.std.specs.declared.option.Option.the-variants.{Some, None}
 use Rattle.std.specs.declared.result.Result.the-variants.{Ok, Err}
-use Rattle.plan.specs.declared.fault.Flaw.{Flaw}
-use Rattle.plan.specs.declared.fault.Spot.{Spot}
+use Rattle.fault.specs.declared.Flaw.{Flaw}
+use Rattle.fault.specs.declared.Spot.{Spot}
 use Rattle.plan.specs.declared.event.Figures.{Figures}
 use Rattle.plan.specs.declared.event.Kind.{Kind}
 use Rattle.plan.specs.Bits.{bits, fieldOf, spotOf}
-use Rattle.plan.specs.Faults.{wrong}
+use Rattle.fault.specs.Faults.{wrong}
 use Rattle.plan.specs.Records.{kindOf, lacksA, lacksB, proper, Unpacked, eventOf, rowWith}
 use Rattle.plan.proofs.Fields.{field-whole}
 

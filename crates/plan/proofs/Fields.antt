@@ -13,9 +13,9 @@ use Rattle.std.proofs.shelf.Bits.{pow-add, mod-below, mod-pow-add, shr-shr}
 use Rattle.std.proofs.shelf.Tests.{le-leb, lt-leb, cases-lt}
 use Rattle.std.specs.declared.result.Result.{Result}
 use Rattle.std.specs.declared.result.Result.the-variants.{Ok, Err}
-use Rattle.plan.specs.declared.fault.Spot.{Spot}
+use Rattle.fault.specs.declared.Spot.{Spot}
 use Rattle.plan.specs.Bits.{bit, bits, fieldOf, spotOf}
-use Rattle.plan.specs.Faults.{Fault, short}
+use Rattle.fault.specs.Faults.{Fault, short}
 
 pub bit-below : (bs : List ℕ) (i : ℕ) → bit bs i < 2
 unfolding bit

@@ -12,9 +12,9 @@ use Rattle.std.specs.declared.option.Option.{Option}
 use Rattle.std.specs.declared.option.Option.the-variants.{Some, None}
 use Rattle.std.specs.declared.result.Result.{Result}
 use Rattle.std.specs.declared.result.Result.the-variants.{Ok, Err}
-use Rattle.plan.specs.declared.fault.Spot.{Spot}
+use Rattle.fault.specs.declared.Spot.{Spot}
 use Rattle.plan.specs.Bits.{fieldOf, spotOf, then, given}
-use Rattle.plan.specs.Faults.{Fault, trailing}
+use Rattle.fault.specs.Faults.{Fault, trailing}
 use Rattle.plan.specs.Records.{Row, frontOf, eventOf}
 use Rattle.plan.specs.Plans.{Reader, isEnd, placed, stepOf, afterSpot, eventsOf, firstSpot, nextSpot, Fresh, nextOf, passed, afterOf}
 use Rattle.plan.proofs.Fields.{field-cut}
@@ -61,12 +61,12 @@ asked-fault false (Err x) e h = (refl, cc)
 
 -- The reader has read k events.
 abbrev pub Counts : Reader → ℕ → Type 0
-Counts s k = s .length ≡ s .first + 8 * k + length (s .rest)
+Counts s k = s .total ≡ s .first + 8 * k + length (s .rest)
 
 spot-at : (s : Reader) (k : ℕ) → Counts s k → nextSpot s ≡ record { byte = s .first + 8 * k; number = k + 1 }
 spot-at s k h =
-    let byte : s .length - length (s .rest) ≡ s .first + 8 * k = omega arith in
-    let number : (s .length - length (s .rest) - s .first) / 8 + 1 ≡ k + 1 = omega arith in
+    let byte : s .total - length (s .rest) ≡ s .first + 8 * k = omega arith in
+    let number : (s .total - length (s .rest) - s .first) / 8 + 1 ≡ k + 1 = omega arith in
     λ i. record { byte = byte i; number = number i }
 
 -- What a reader has still to give, with n more than there can be records.
@@ -76,18 +76,18 @@ left n s = cond (s .ended) (Ok []) (eventsOf n (s .rest) (nextSpot s))
 -- The events that were read, with those that are left, are the whole.
 pub record Sofar (whole : Result (List Row) Fault) (s : Reader) (read : List Row) : Type 0 where
   pub counts : Counts s (length read)
-  pub goes : then (left (suc (s .length) - length read) s) (λ es. Ok (read ++ es)) ≡ whole
+  pub goes : then (left (suc (s .total) - length read) s) (λ es. Ok (read ++ es)) ≡ whole
 
 then-all : (r : Result (List Row) Fault) → then r (λ es. Ok ([] ++ es)) ≡ r
 then-all (Ok x) = refl
 then-all (Err x) = refl
 
-pub sofar-none : (s : Reader) → Fresh s → Sofar (eventsOf (suc (s .length)) (s .rest) (firstSpot (s .first))) s []
+pub sofar-none : (s : Reader) → Fresh s → Sofar (eventsOf (suc (s .total)) (s .rest) (firstSpot (s .first))) s []
 sofar-none s h =
     let counts : Counts s 0 = omega (arith, h .whole) in
     let byte : s .first + 8 * 0 ≡ s .first = omega arith in
     let start : nextSpot s ≡ firstSpot (s .first) = spot-at s 0 counts ∙ ap firstSpot byte in
-    let fuel : suc (s .length) - 0 ≡ suc (s .length) = omega arith in
+    let fuel : suc (s .total) - 0 ≡ suc (s .total) = omega arith in
     record { counts = counts; goes = rw (h .opened, start, fuel) (then-all _) }
 
 module _ (bs : List ℕ) (o : Spot) (n : ℕ) where
@@ -125,7 +125,7 @@ module _ {whole : Result (List Row) Fault} {s : Reader} {read : List Row} (h : S
   pub sofar-done : Ok None ≡ nextOf s → Ok read ≡ whole
   sofar-done a = let end = asked-none (s .ended) _ a in ap Ok (sym (append-nil read)) ∙ (rw end at (h .goes))
 
-  fuel : suc (s .length) - length read ≡ suc (s .length - length read)
+  fuel : suc (s .total) - length read ≡ suc (s .total - length read)
   fuel = omega (arith, h .counts)
 
   pub sofar-fault : (e : Fault) → Err e ≡ nextOf s → Err e ≡ whole
@@ -146,8 +146,8 @@ module _ {whole : Result (List Row) Fault} {s : Reader} {read : List Row} (h : S
       let k = length read in
       let more = counts-more s k e (h .counts) (step-long _ _ e (p .1)) in
       let long = length-push read e in
-      let less : suc (s .length) - length (read ++ e ∷ []) ≡ s .length - k = omega arith in
-      let goes : then (left (s .length - k) (past s e)) (λ es. Ok ((read ++ e ∷ []) ++ es)) ≡ whole = sym (then-push _ read e) ∙ (rw (p .0, fuel, left-more s k _ e (h .counts) (p .1)) at (h .goes)) in
+      let less : suc (s .total) - length (read ++ e ∷ []) ≡ s .total - k = omega arith in
+      let goes : then (left (s .total - k) (past s e)) (λ es. Ok ((read ++ e ∷ []) ++ es)) ≡ whole = sym (then-push _ read e) ∙ (rw (p .0, fuel, left-more s k _ e (h .counts) (p .1)) at (h .goes)) in
       rw (p .0, ← p .1) (record { counts = rw long more; goes = rw less goes })
 
 pub sofar-at : {whole : Result (List Row) Fault} {s t : Reader} {xs ys : List Row} → s ≡ t → xs ≡ ys → Sofar whole t ys → Sofar whole s xs

@@ -5,10 +5,10 @@ use mathlib.Core.List.{List}
 use Prim.Native.Nat.{ℕ}
 use lib.ListN.{length}
 use Rattle.std.specs.declared.result.Result.the-variants.{Ok, Err}
-use Rattle.plan.specs.declared.fault.Spot.{Spot}
+use Rattle.fault.specs.declared.Spot.{Spot}
 use Rattle.plan.specs.declared.event.Kind.{Kind}
 use Rattle.plan.specs.Bits.{spotOf}
-use Rattle.plan.specs.Faults.{Fault, trailing}
+use Rattle.fault.specs.Faults.{Fault, trailing}
 use Rattle.plan.specs.Records.{Row, eventOf}
 use Rattle.plan.specs.Plans.{placed, stepOf}
 

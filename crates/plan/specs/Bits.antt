@@ -8,8 +8,8 @@ use Rattle.std.specs.declared.result.Result.{Result}
 use Rattle.std.specs.declared.result.Result.the-variants.{Ok, Err}
 use Rattle.std.specs.declared.option.Option.{Option}
 use Rattle.std.specs.declared.option.Option.the-variants.{Some, None}
-use Rattle.plan.specs.declared.fault.Spot.{Spot}
-use Rattle.plan.specs.Faults.{Fault, short}
+use Rattle.fault.specs.declared.Spot.{Spot}
+use Rattle.fault.specs.Faults.{Fault, short}
 
 -- Bit i of the bytes.
 unfoldable pub bit : List ℕ → ℕ → ℕ

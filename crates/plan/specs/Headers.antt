@@ -8,14 +8,14 @@ use Rattle.std.specs.declared.option.Option.{Option}
 use Rattle.std.specs.declared.option.Option.the-variants.{Some, None}
 use Rattle.std.specs.declared.result.Result.{Result}
 use Rattle.std.specs.declared.result.Result.the-variants.{Ok, Err}
-use Rattle.plan.specs.declared.fault.Flaw.{Flaw}
-use Rattle.plan.specs.declared.fault.Spot.{Spot}
+use Rattle.fault.specs.declared.Flaw.{Flaw}
+use Rattle.fault.specs.declared.Spot.{Spot}
 use Rattle.plan.specs.declared.header.Header.{Header}
 use Rattle.plan.specs.declared.header.Setup.{Setup}
 use Rattle.plan.specs.declared.header.MeasureKind.{MeasureKind}
 use Rattle.plan.specs.declared.header.PolicyKind.{PolicyKind}
 use Rattle.plan.specs.Bits.{fieldOf, spotOf, then, given, named}
-use Rattle.plan.specs.Faults.{Fault, wrong}
+use Rattle.fault.specs.Faults.{Fault, wrong}
 
 -- The header is record 0 and starts at byte 0.
 abbrev pub origin : Spot

@@ -1,4 +1,3 @@
-pub mod Faults
 pub mod Bits
 pub mod Headers
 pub mod Records

@@ -11,14 +11,14 @@ use Rattle.std.specs.declared.option.Option.{Option}
 use Rattle.std.specs.declared.option.Option.the-variants.{Some, None}
 use Rattle.std.specs.declared.result.Result.{Result}
 use Rattle.std.specs.declared.result.Result.the-variants.{Ok, Err}
-use Rattle.plan.specs.declared.fault.Spot.{Spot}
+use Rattle.fault.specs.declared.Spot.{Spot}
 use Rattle.plan.specs.declared.event.Kind.{Kind}
 use Rattle.plan.specs.declared.header.Header.{Header}
 use Rattle.plan.specs.declared.events.Events.{Events}
 use Rattle.plan.specs.declared.reading.Plan.{Plan}
 use Rattle.plan.specs.declared.reading.PlanError.{PlanError}
 use Rattle.plan.specs.Bits.{spotOf, then, given}
-use Rattle.plan.specs.Faults.{Fault, tooLong, trailing, planTold, told, shown}
+use Rattle.fault.specs.Faults.{Fault, tooLong, trailing, planTold, told, shown}
 use Rattle.plan.specs.Headers.{headerLength, headerOf}
 use Rattle.plan.specs.Records.{Row, eventOf, rowOf}
 
@@ -52,17 +52,17 @@ eventsOf (suc n) bs o =
 -- What an events reader holds: the bytes to come, the plan's length, the place of the first event, and whether the end record was read.
 pub record Reader : Type 0 where
   pub rest : List ℕ
-  pub length : ℕ
+  pub total : ℕ
   pub first : ℕ
   pub ended : Bool
 
 abbrev pub readerOf : Events → Reader
-readerOf e = record { rest = e .rest .now; length = e .length; first = e .first; ended = e .ended }
+readerOf e = record { rest = e .rest .now; total = e .total; first = e .first; ended = e .ended }
 
 -- Where the next record starts: so far into the plan, and the first event is record 1.
 abbrev pub nextSpot : Reader → Spot
 nextSpot s =
-    record { byte = s .length - length (s .rest); number = (s .length - length (s .rest) - s .first) / 8 + 1 }
+    record { byte = s .total - length (s .rest); number = (s .total - length (s .rest) - s .first) / 8 + 1 }
 
 -- What a reader answers: none past the end, else the next event or the fault.
 abbrev pub nextOf : Reader → Result (Option Row) Fault
@@ -70,7 +70,7 @@ nextOf s = cond (s .ended) (Ok None) (then (stepOf (s .rest) (nextSpot s)) (λ e
 
 -- A reader past an event: a fault leaves it as it is.
 abbrev pub passed : Reader → Result Row Fault → Reader
-passed s (Ok e) = record { rest = drop 8 (s .rest); length = s .length; first = s .first; ended = isEnd (e .kind) }
+passed s (Ok e) = record { rest = drop 8 (s .rest); total = s .total; first = s .first; ended = isEnd (e .kind) }
 passed s (Err e) = s
 
 abbrev pub afterOf : Reader → Reader
@@ -79,12 +79,12 @@ afterOf s = cond (s .ended) s (passed s (stepOf (s .rest) (nextSpot s)))
 -- A reader at the first event: the bytes to come follow the header.
 pub record Fresh (s : Reader) : Type 0 where
   pub opened : s .ended ≡ false
-  pub whole : s .length ≡ s .first + length (s .rest)
+  pub whole : s .total ≡ s .first + length (s .rest)
 
 -- An opened plan: its header, and the reader of the events after it.
 abbrev pub readerAt : List ℕ → Header → Reader
 readerAt bs h =
-    record { rest = drop (headerLength (h .cores)) bs; length = length bs; first = headerLength (h .cores); ended = false }
+    record { rest = drop (headerLength (h .cores)) bs; total = length bs; first = headerLength (h .cores); ended = false }
 
 -- The longest plan has 65,536 bytes.
 abbrev pub openOf : List ℕ → Result (Header × Reader) Fault

@@ -10,14 +10,14 @@ use Rattle.std.specs.declared.option.Option.{Option}
 use Rattle.std.specs.declared.option.Option.the-variants.{Some, None}
 use Rattle.std.specs.declared.result.Result.{Result}
 use Rattle.std.specs.declared.result.Result.the-variants.{Ok, Err}
-use Rattle.plan.specs.declared.fault.Flaw.{Flaw}
-use Rattle.plan.specs.declared.fault.Spot.{Spot}
+use Rattle.fault.specs.declared.Flaw.{Flaw}
+use Rattle.fault.specs.declared.Spot.{Spot}
 use Rattle.plan.specs.declared.event.Event.{Event}
 use Rattle.plan.specs.declared.event.Figures.{Figures}
 use Rattle.plan.specs.declared.event.Front.{Front}
 use Rattle.plan.specs.declared.event.Kind.{Kind}
 use Rattle.plan.specs.Bits.{bits, fieldOf, spotOf, then, given, named}
-use Rattle.plan.specs.Faults.{Fault, wrong}
+use Rattle.fault.specs.Faults.{Fault, wrong}
 
 -- The kind's number: 1 admit, 2 wake, 3 rest, 4 leave, 5 move, 6 end.
 abbrev pub kindOf : ℕ → Option Kind

@@ -6,16 +6,16 @@ ghost use lib.ListN.{length, take, drop};
 ghost use Rattle.std.specs.Options.{Cases};
 ghost use Rattle.std.specs.Vec.{made};
 ghost use Rattle.std.specs.declared.result.Result.the-variants.{Err};
-ghost use Rattle.plan.specs.Faults.{told, shown, recordTold};
+ghost use Rattle.fault.specs.Faults.{told, shown, recordTold};
 ghost use Rattle.plan.specs.Records.{kindOf, kindWord, lacksA, lacksB, proper, Unpacked, frontOf, eventOf, rowOf, rowWith};
-use crate::fault::BitFault;
-use crate::fault::Flaw;
-use crate::fault::RecordFault;
-use crate::fault::RecordFaultFromBits;
-use crate::fault::Spot;
 use crate::field::field;
 use crate::field::flawed;
 use crate::field::spot;
+use fault::BitFault;
+use fault::Flaw;
+use fault::RecordFault;
+use fault::RecordFaultFromBits;
+use fault::Spot;
 
 #[derive(Clone, Copy, PartialEq, Eq, Debug)]
 pub enum Kind {
@@ -43,13 +43,13 @@ impl Kind {
 }
 
 // The eight bytes that an event came from, and the place of the first in the plan.
-#[derive(Clone, Copy, Debug)]
+#[derive(Clone, Copy)]
 pub struct Source<'a> {
     pub bytes: &'a [u8; 8],
     pub place: usize,
 }
 
-#[derive(Clone, Copy, Debug)]
+#[derive(Clone, Copy)]
 pub enum Event<'a> {
     Admit {
         gap: u32,

@@ -4,25 +4,25 @@ ghost use Prim.Native.Nat.{_^_, _<_};
 ghost use lib.ListN.{drop};
 ghost use Rattle.std.specs.Options.{mapped};
 ghost use Rattle.std.specs.Vec.{made};
-ghost use Rattle.plan.specs.Faults.{told, shown, planTold};
+ghost use Rattle.fault.specs.Faults.{told, shown, planTold};
 ghost use Rattle.plan.specs.Records.{rowOf};
 ghost use Rattle.plan.specs.Plans.{readerOf, isEnd, placed, stepOf, nextSpot, Fresh, openOf, nextOf, afterOf};
 use crate::event::Event;
 use crate::event::Kind;
 use crate::event::read_event;
-use crate::fault::PlanFault;
-use crate::fault::PlanFaultFromRecord;
-use crate::fault::Spot;
 use crate::field::spot;
 use crate::header::Header;
 use crate::header::header_length;
 use crate::header::read_fields;
+use fault::PlanFault;
+use fault::PlanFaultFromRecord;
+use fault::Spot;
 
 // The bytes to come, the plan's length, the place of the first event, and whether the end record was read.
-#[derive(Clone, Copy, Debug)]
+#[derive(Clone, Copy)]
 pub struct Events<'a> {
     rest: &'a [u8],
-    length: u32,
+    total: u32,
     first: u32,
     ended: bool,
 }
@@ -39,7 +39,7 @@ pub fn read_header<'a>(bytes: &'a [u8]) -> Result<(Header, Events<'a>), PlanFaul
     let first = header_length(header.cores);
     let events = Events {
         rest: &bytes[first..],
-        length: bytes.len() as u32,
+        total: bytes.len() as u32,
         first: first as u32,
         ended: false,
     };
@@ -53,10 +53,10 @@ fn is_end(kind: Kind) -> bool
 }
 
 // Nothing follows an end record.
-fn is_placed(kind: Kind, length: usize) -> bool
-    ensures { λ r. ⌜ r ≡ placed kind length ⌝ }
+fn is_placed(kind: Kind, count: usize) -> bool
+    ensures { λ r. ⌜ r ≡ placed kind count ⌝ }
 {
-    !is_end(kind) || length <= 8
+    !is_end(kind) || count <= 8
 }
 
 // The event at the front of the bytes, and the bytes after it: none after an end record.
@@ -78,7 +78,7 @@ impl<'a> Events<'a> {
         ensures value { λ r. ⌜ r ≡ nextSpot (readerOf (now (self .entry))) ⌝ }
         ensures low { λ r. ⌜ r .byte < 2 ^ 32 ⌝ }
     {
-        let byte = (self.length as usize).saturating_sub(self.rest.len());
+        let byte = (self.total as usize).saturating_sub(self.rest.len());
         Spot {
             byte,
             number: byte.saturating_sub(self.first as usize) / 8 + 1,

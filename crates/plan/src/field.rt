@@ -3,11 +3,11 @@ ghost use mathlib.Core.Path.{_≡_};
 ghost use Prim.Native.Nat.{_+_, _*_, _^_, _≤_, _<_};
 ghost use lib.ListN.{length};
 ghost use Rattle.plan.specs.Bits.{bit as bitOf, bits as bitsOf, fieldOf, spotOf};
-ghost use Rattle.plan.specs.Faults.{told, bitTold, recordTold, wrong};
-use crate::fault::BitFault;
-use crate::fault::Flaw;
-use crate::fault::RecordFault;
-use crate::fault::Spot;
+ghost use Rattle.fault.specs.Faults.{told, bitTold, recordTold, wrong};
+use fault::BitFault;
+use fault::Flaw;
+use fault::RecordFault;
+use fault::Spot;
 
 fn bit(bytes: &[u8], i: usize) -> u8
     requires { ⌜ i < 8 * length (now bytes) ⌝ }

@@ -3,14 +3,14 @@ ghost use mathlib.Core.Path.{_≡_};
 ghost use Prim.Native.Nat.{min, _≤_, _<_};
 ghost use lib.ListN.{length, take};
 ghost use Rattle.std.specs.Vec.{made};
-ghost use Rattle.plan.specs.Faults.{told, recordTold};
+ghost use Rattle.fault.specs.Faults.{told, recordTold};
 ghost use Rattle.plan.specs.Headers.{marksOf, measureOf, policyOf, setupOf, startOf, boundOf, boundsOf, headerLength, fillingOf, headerOf};
-use crate::fault::Flaw;
-use crate::fault::RecordFault;
-use crate::fault::RecordFaultFromBits;
-use crate::fault::Spot;
 use crate::field::field;
 use crate::field::flawed;
+use fault::Flaw;
+use fault::RecordFault;
+use fault::RecordFaultFromBits;
+use fault::Spot;
 
 #[derive(Clone, Copy, PartialEq, Eq, Debug)]
 pub enum MeasureKind {

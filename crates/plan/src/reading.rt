@@ -7,16 +7,14 @@ ghost use Rattle.plan.specs.declared.reading.PlanError.the-variants.{Fault};
 ghost use Rattle.plan.specs.Records.{rowOf};
 ghost use Rattle.plan.specs.Plans.{readerOf, Fresh, eventsOf, firstSpot, planOf, contentsOf, Answers};
 use crate::event::Event;
-use crate::event::EventDebug;
 use crate::events::Events;
 use crate::events::read_header;
-use crate::fault::PlanFault;
-use crate::fault::PlanFaultDebug;
 use crate::header::Header;
-use crate::header::HeaderDebug;
+use fault::PlanFault;
+use fault::PlanFaultDebug;
 use std::alloc::Global;
 
-#[derive(Drop, Debug)]
+#[derive(Drop)]
 pub struct Plan<'a> {
     pub header: Header,
     pub events: Vec<Event<'a>>,
@@ -40,7 +38,7 @@ pub impl From<PlanFault> for PlanError as PlanErrorFromFault {
 // All events of a reader that is at the first.
 fn gather<'a>(heap: Global, mut reader: Events<'a>) -> Result<Vec<Event<'a>>, PlanError>
     requires { ⌜ Fresh (readerOf reader) ⌝ }
-    ensures { λ r. ⌜ Answers (λ v. map rowOf (vec-items v)) r (eventsOf (suc (readerOf (reader .entry) .length)) (readerOf (reader .entry) .rest) (firstSpot (readerOf (reader .entry) .first))) ⌝ }
+    ensures { λ r. ⌜ Answers (λ v. map rowOf (vec-items v)) r (eventsOf (suc (readerOf (reader .entry) .total)) (readerOf (reader .entry) .rest) (firstSpot (readerOf (reader .entry) .first))) ⌝ }
 {
     let mut events = Vec::new(heap);
     while let Some(event) = reader.next()? {

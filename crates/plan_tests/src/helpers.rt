@@ -1,10 +1,10 @@
 // The sample plan, and what is told of a plan's bytes.
-use plan::Layer;
-use plan::LayerDebug;
-use plan::LayerEq;
-use plan::LayerPartialEq;
+use fault::Layer;
+use fault::LayerDebug;
+use fault::LayerEq;
+use fault::LayerPartialEq;
+use fault::PlanFault;
 use plan::PlanError;
-use plan::PlanFault;
 use plan::read_plan;
 use std::alloc::Global;
 use std::test::*;

@@ -1,13 +1,13 @@
 // Reading one event after another.
 use crate::helpers::*;
+use fault::PlanFaultDebug;
+use fault::PlanFaultDisplay;
 use plan::Kind;
 use plan::KindDebug;
 use plan::KindPartialEq;
 use plan::MeasureKind;
 use plan::MeasureKindDebug;
 use plan::MeasureKindPartialEq;
-use plan::PlanFaultDebug;
-use plan::PlanFaultDisplay;
 use plan::PolicyKind;
 use plan::PolicyKindDebug;
 use plan::PolicyKindPartialEq;

@@ -10,7 +10,7 @@ use Rattle.plan.specs.declared.header.Header.{Header}
 use Rattle.plan.specs.declared.header.MeasureKind.{MeasureKind}
 use Rattle.plan.specs.declared.header.PolicyKind.{PolicyKind}
 use Rattle.plan.specs.declared.event.Kind.{Kind}
-use Rattle.plan.specs.Faults.{Fault, planTold, faultLine}
+use Rattle.fault.specs.Faults.{Fault, planTold, faultLine}
 use Rattle.plan.specs.Records.{Row, kindWord}
 use Rattle.plan.specs.Plans.{Contents, planOf}
 use Rattle.report.specs.declared.line.Line.{Line}

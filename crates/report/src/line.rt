@@ -2,11 +2,11 @@
 ghost use mathlib.Core.Path.{_≡_};
 ghost use Rattle.std.specs.declared.option.Option.the-variants.{Some};
 ghost use Rattle.report.specs.Lines.{lineText, measureWord, policyWord};
+use fault::PlanFault;
+use fault::PlanFaultDisplay;
 use plan::Header;
 use plan::Kind;
 use plan::MeasureKind;
-use plan::PlanFault;
-use plan::PlanFaultDisplay;
 use plan::PolicyKind;
 use std::fmt;
 

@@ -2,7 +2,7 @@ use mathlib.Core.Path.{sym, ap, _∙_}
 use borrow.Author.Needs.{needs}
 use Rattle.std.proofs.shelf.Results.{err-from-errBy}
 use Rattle.std.specs.declared.result.Result.the-variants.{Err}
-use Rattle.plan.specs.Faults.{trailing}
+use Rattle.fault.specs.Faults.{trailing}
 use Rattle.plan.proofs.Steps.{step-fault, step-trailing, step-event}
 use Rattle.plan.proofs.events.read_step.Needs as need
 

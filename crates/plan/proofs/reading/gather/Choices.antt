@@ -9,7 +9,7 @@ use Rattle.plan.proofs.reading.gather.Given as given
 
 abbrev pub Inv-loop-events : given.InvT-loop-events
 Inv-loop-events l =
-    Sofar (eventsOf (suc (l .entry .reader .length)) (l .entry .reader .rest .now) (firstSpot (l .entry .reader .first))) (readerOf (l .reader)) (map rowOf (vec-items (l .events)))
+    Sofar (eventsOf (suc (l .entry .reader .total)) (l .entry .reader .rest .now) (firstSpot (l .entry .reader .first))) (readerOf (l .reader)) (map rowOf (vec-items (l .events)))
 
 abbrev pub μ-loop-events : given.MeasureT-loop-events
 μ-loop-events l = length (readerOf (l .reader) .rest)

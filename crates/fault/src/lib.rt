@@ -4,9 +4,9 @@ ghost use mathlib.Core.List.{_++_};
 ghost use lib.Chars.{codes};
 ghost use Rattle.std.specs.Written.{decimal};
 ghost use Rattle.std.specs.declared.option.Option.the-variants.{Some};
-ghost use Rattle.plan.specs.declared.fault.PlanFault.the-variants.{Record};
-ghost use Rattle.plan.specs.declared.fault.RecordFault.the-variants.{Bits};
-ghost use Rattle.plan.specs.Faults.{causeNumber, layerWord, planTold, faultLine};
+ghost use Rattle.fault.specs.declared.PlanFault.the-variants.{Record};
+ghost use Rattle.fault.specs.declared.RecordFault.the-variants.{Bits};
+ghost use Rattle.fault.specs.Faults.{causeNumber, layerWord, planTold, faultLine};
 use std::fmt;
 
 #[derive(Clone, Copy, PartialEq, Eq, Debug)]

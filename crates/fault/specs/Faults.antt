@@ -5,13 +5,13 @@ use lib.Chars.{codes}
 use Rattle.std.specs.Written.{decimal}
 use Rattle.std.specs.declared.result.Result.{Result}
 use Rattle.std.specs.declared.result.Result.the-variants.{Ok, Err}
-use Rattle.plan.specs.declared.fault.Cause.{Cause}
-use Rattle.plan.specs.declared.fault.Layer.{Layer}
-use Rattle.plan.specs.declared.fault.Flaw.{Flaw}
-use Rattle.plan.specs.declared.fault.Spot.{Spot}
-use Rattle.plan.specs.declared.fault.BitFault.{BitFault}
-use Rattle.plan.specs.declared.fault.RecordFault.{RecordFault}
-use Rattle.plan.specs.declared.fault.PlanFault.{PlanFault}
+use Rattle.fault.specs.declared.Cause.{Cause}
+use Rattle.fault.specs.declared.Layer.{Layer}
+use Rattle.fault.specs.declared.Flaw.{Flaw}
+use Rattle.fault.specs.declared.Spot.{Spot}
+use Rattle.fault.specs.declared.BitFault.{BitFault}
+use Rattle.fault.specs.declared.RecordFault.{RecordFault}
+use Rattle.fault.specs.declared.PlanFault.{PlanFault}
 
 -- The number of each cause.
 abbrev pub causeNumber : Cause → ℕ
