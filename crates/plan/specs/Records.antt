@@ -16,6 +16,7 @@ use Rattle.plan.specs.declared.event.Event.{Event}
 use Rattle.plan.specs.declared.event.Figures.{Figures}
 use Rattle.plan.specs.declared.event.Front.{Front}
 use Rattle.plan.specs.declared.event.Kind.{Kind}
+use Rattle.plan.specs.declared.event.Source.{Source}
 use Rattle.plan.specs.Bits.{bits, fieldOf, spotOf, then, given, named}
 use Rattle.fault.specs.Faults.{Fault, wrong}
 
@@ -99,14 +100,18 @@ eventOf bs o =
     then (figureAt bs o 44 (lacksB (front .kind))) (λ b.
     Ok (record { kind = front .kind; gap = front .gap; a = front .a; b = b; bytes = take 8 bs; place = o .byte })))
 
+-- A row of these figures, from this record.
+abbrev pub rowFrom : Source → Kind → ℕ → ℕ → ℕ → Row
+rowFrom s kind gap a b = record { kind = kind; gap = gap; a = a; b = b; bytes = s .bytes .now; place = s .place }
+
 -- What an event holds, with 0 for a figure that its kind lacks.
 abbrev pub rowOf : Event → Row
-rowOf (Event.Admit gap budget period s) = record { kind = Kind.Admit; gap = gap; a = budget; b = period; bytes = s .bytes .now; place = s .place }
-rowOf (Event.Wake gap number s) = record { kind = Kind.Wake; gap = gap; a = number; b = 0; bytes = s .bytes .now; place = s .place }
-rowOf (Event.Rest gap number s) = record { kind = Kind.Rest; gap = gap; a = number; b = 0; bytes = s .bytes .now; place = s .place }
-rowOf (Event.Leave gap number s) = record { kind = Kind.Leave; gap = gap; a = number; b = 0; bytes = s .bytes .now; place = s .place }
-rowOf (Event.Move gap number core s) = record { kind = Kind.Move; gap = gap; a = number; b = core; bytes = s .bytes .now; place = s .place }
-rowOf (Event.End gap s) = record { kind = Kind.End; gap = gap; a = 0; b = 0; bytes = s .bytes .now; place = s .place }
+rowOf (Event.Admit gap budget period s) = rowFrom s Kind.Admit gap budget period
+rowOf (Event.Wake gap number s) = rowFrom s Kind.Wake gap number 0
+rowOf (Event.Rest gap number s) = rowFrom s Kind.Rest gap number 0
+rowOf (Event.Leave gap number s) = rowFrom s Kind.Leave gap number 0
+rowOf (Event.Move gap number core s) = rowFrom s Kind.Move gap number core
+rowOf (Event.End gap s) = rowFrom s Kind.End gap 0 0
 
 -- The row of a kind with these figures.
 abbrev pub rowWith : Kind → Figures → List ℕ → ℕ → Row
