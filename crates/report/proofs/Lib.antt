@@ -1,1 +1,4 @@
-mod Rows
+pub mod Told
+pub mod Idle
+pub mod Closing
+pub mod Playing

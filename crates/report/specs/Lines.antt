@@ -1,63 +1,62 @@
--- The report of a plan, line by line.
-use mathlib.Core.List.{List, [], _∷_, _++_}
-use Prim.Native.Nat.{ℕ, _+_}
+-- The text of a report's lines.
+use mathlib.Core.List.{List, _++_}
+use Prim.Native.Nat.{ℕ}
 use lib.Chars.{codes}
-use lib.ListN.{getD}
 use Rattle.std.specs.Written.{decimal}
-use Rattle.std.specs.declared.result.Result.{Result}
-use Rattle.std.specs.declared.result.Result.the-variants.{Ok, Err}
-use Rattle.plan.specs.declared.header.Header.{Header}
-use Rattle.plan.specs.declared.header.MeasureKind.{MeasureKind}
-use Rattle.plan.specs.declared.header.PolicyKind.{PolicyKind}
-use Rattle.plan.specs.declared.event.Kind.{Kind}
-use Rattle.fault.specs.Faults.{Fault, planTold, faultLine}
-use Rattle.plan.specs.Records.{Row, kindWord}
-use Rattle.plan.specs.Plans.{Contents, planOf}
+use Rattle.terms.specs.Numbers.{number}
+use Rattle.rules.specs.declared.types.State.{State}
+use Rattle.rules.specs.declared.types.Call.{Call}
+use Rattle.rules.specs.declared.types.Answer.{Answer}
+use Rattle.fault.specs.Faults.{planTold, faultLine}
 use Rattle.report.specs.declared.line.Line.{Line}
 
--- The words of the measures and of the policies.
-abbrev pub measureWord : MeasureKind → List ℕ
-measureWord MeasureKind.Rounded = codes "rounded"
-measureWord MeasureKind.Catalogue = codes "catalogue"
+-- The word of each state.
+abbrev pub stateWord : State → List ℕ
+stateWord State.Ready = codes "ready"
+stateWord State.Spent = codes "spent"
+stateWord State.Resting = codes "resting"
 
-abbrev pub policyWord : PolicyKind → List ℕ
-policyWord PolicyKind.First = codes "first"
-policyWord PolicyKind.Worst = codes "worst"
-policyWord PolicyKind.Best = codes "best"
+-- A call with its A, and its B where that need not be zero.
+abbrev pub callText : Call → List ℕ
+callText (Call.Admit q p) = codes "admit " ++ (decimal q ++ (codes " " ++ decimal p))
+callText (Call.Wake n) = codes "wake " ++ decimal n
+callText (Call.Rest n) = codes "rest " ++ decimal n
+callText (Call.Leave n) = codes "leave " ++ decimal n
+callText (Call.Move n c) = codes "move " ++ (decimal n ++ (codes " " ++ decimal c))
+callText Call.Deal = codes "deal"
+callText (Call.Settle t) = codes "settle " ++ decimal t
 
--- A header's figures.
-abbrev pub headerLine : Header → List ℕ
-headerLine h =
-    codes "cores " ++ (decimal (h .cores) ++ (codes " measure " ++ (measureWord (h .measure) ++ (codes " policy " ++ (policyWord (h .policy) ++ (codes " start " ++ decimal (h .start)))))))
+-- An answer.
+abbrev pub answerText : Answer → List ℕ
+answerText (Answer.Placed n c) = decimal n ++ (codes " on " ++ decimal c)
+answerText (Answer.Awake s d) = stateWord s ++ (codes " " ++ decimal d)
+answerText (Answer.Left q) = codes "left " ++ decimal q
+answerText (Answer.Until t) = codes "until " ++ decimal t
+answerText Answer.Free = codes "free"
+answerText (Answer.Dealt t) = codes "dealt " ++ decimal t
+answerText (Answer.Clock t) = codes "clock " ++ decimal t
+answerText (Answer.Refused n) = codes "refused " ++ decimal (number n)
 
--- An event's record number, kind and figures.
-abbrev pub figuresLine : ℕ → Kind → ℕ → ℕ → ℕ → List ℕ
-figuresLine number kind gap a b =
-    decimal number ++ (codes " " ++ (kindWord kind ++ (codes " " ++ (decimal gap ++ (codes " " ++ (decimal a ++ (codes " " ++ decimal b)))))))
+-- The tick, the call, and after = the answer.
+abbrev pub saidText : ℕ → Call → Answer → List ℕ
+saidText t c a = decimal t ++ (codes " " ++ (callText c ++ (codes " = " ++ answerText a)))
+
+-- The end record's line.
+abbrev pub endText : ℕ → List ℕ
+endText t = decimal t ++ codes " end"
+
+-- A core with the parts of its live and of its departed reservations.
+abbrev pub coreText : ℕ → ℕ → ℕ → List ℕ
+coreText c live departed = codes "core " ++ (decimal c ++ (codes " " ++ (decimal live ++ (codes " " ++ decimal departed))))
+
+-- A reservation with the ticks that it has run.
+abbrev pub ranText : ℕ → ℕ → List ℕ
+ranText n ticks = codes "res " ++ (decimal n ++ (codes " ran " ++ decimal ticks))
 
 -- The text of a line.
 abbrev pub lineText : Line → List ℕ
 lineText (Line.Fault f) = faultLine (planTold f)
-lineText (Line.Header h) = headerLine h
-lineText (Line.Event number kind gap a b) = figuresLine number kind gap a b
-
--- The line of an event that is record n.
-abbrev pub rowLine : ℕ → Row → List ℕ
-rowLine n r = figuresLine n (r .kind) (r .gap) (r .a) (r .b)
-
--- The lines of the events from record n on.
-abbrev pub rowLines : ℕ → List Row → List (List ℕ)
-rowLines n [] = []
-rowLines n (r ∷ rs) = rowLine n r ∷ rowLines (n + 1) rs
-
--- The header's line, then a line for each event.
-abbrev pub contentLines : Contents → List (List ℕ)
-contentLines c = headerLine (c .header) ∷ rowLines 1 (c .events)
-
--- The report of a plan: the fault's line alone, or the lines of its contents.
-abbrev pub linesOf : Result Contents Fault → List (List ℕ)
-linesOf (Err f) = faultLine f ∷ []
-linesOf (Ok c) = contentLines c
-
-abbrev pub reportOf : List ℕ → List (List ℕ)
-reportOf bs = linesOf (planOf bs)
+lineText (Line.Said t c a) = saidText t c a
+lineText (Line.End t) = endText t
+lineText (Line.Core c live departed) = coreText c live departed
+lineText (Line.Ran n ticks) = ranText n ticks

@@ -1,0 +1,14 @@
+pub mod Alike
+pub mod Along
+pub mod Inners
+pub mod Following
+pub mod Engines
+pub mod Admitting
+pub mod Naming
+pub mod Calling
+pub mod Drives
+pub mod Performing
+pub mod Running
+pub mod Filled
+pub mod Rounds
+pub mod Departing

@@ -1,0 +1,9 @@
+pub mod Limits
+pub mod Names
+pub mod Shown
+pub mod Answers
+pub mod View
+pub mod Engines
+pub mod Driving
+pub mod Along
+pub mod Running
