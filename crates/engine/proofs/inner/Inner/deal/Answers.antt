@@ -1,4 +1,5 @@
 use mathlib.Core.Path.{_≡_, refl, sym, ap, _∙_}
+use native.Mathlib.Omega.{arith}
 use Rattle.std.proofs.shelf.Tests.{false≢true}
 use Rattle.terms.specs.declared.refusals.Refusal.the-variants.{RoundOut, ClockEnd}
 use Rattle.engine.specs.Limits.{noneFrom}
@@ -20,7 +21,7 @@ returns-then-self c =
 pub returns-then-tick : need.returns-then-tick
 returns-then-tick c =
     let i = c .args .self .now in
-    record { next = follows-refused i _ ClockEnd (deal-end (bare 0 i) (view i) (c .if-self .left) (sym (c .clock-tick .ensures .answer) ∙ c .if-tick .taken)); kept = λ _. refl }
+    record { next = follows-refused i _ ClockEnd (deal-end (bare 0 i) (view i) (c .if-self .left) (omega (arith, c .clock-tick .ensures .answer, c .if-tick .taken))); kept = λ _. refl }
 
 pub ghost-self : need.ghost-self
 ghost-self c =
@@ -38,7 +39,7 @@ ghost-self c =
               ap length is ∙ dealt-long (i .cores) (liveOf (i .table)) (i .few),
               (
                 ap (noneFrom (i .cores)) is ∙ dealt-none (i .cores) (liveOf (i .table)) (i .few),
-                (going-on (clockOf (i .table)) (i .table .clocked) (λ e. c .if-tick .left (tick .answer ∙ e)), tt),
+                (going-on (clockOf (i .table)) (i .table .clocked) (λ e. omega (arith, c .if-tick .left, tick .answer, e)), tt),
               ),
             ),
           ),
@@ -51,6 +52,6 @@ returns c =
     let i = c .args .self .now in
     let tick = c .clock-tick .ensures .answer in
     record {
-      next = follows-answered i _ _ _ _ _ (deal-done (bare 0 i) (view i) (c .if-self .left) (λ e. c .if-tick .left (tick ∙ e))) (ap Dealt tick) (record { clock = refl; live = refl; ledger = refl; given = refl; out = refl; names = ap (take (i .cores)) (c .picks-self .ensures) ∙ dealt-take (i .cores) (liveOf (i .table)) (i .few) ∙ ap (λ n. picks n (liveOf (i .table))) (sym (figures-long i)) }) refl refl;
+      next = follows-answered i _ _ _ _ _ (deal-done (bare 0 i) (view i) (c .if-self .left) (λ e. omega (arith, c .if-tick .left, tick, e))) (ap Dealt tick) (record { clock = refl; live = refl; ledger = refl; given = refl; out = refl; names = ap (take (i .cores)) (c .picks-self .ensures) ∙ dealt-take (i .cores) (liveOf (i .table)) (i .few) ∙ ap (λ n. picks n (liveOf (i .table))) (sym (figures-long i)) }) refl refl;
       kept = λ e. absurd (false≢true e);
     }

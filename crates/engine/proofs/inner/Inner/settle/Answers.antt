@@ -1,6 +1,7 @@
 use mathlib.Core.Path.{_≡_, refl, sym, ap, _∙_}
 use mathlib.Core.Bool.{cond}
 use mathlib.Core.List.{[], map}
+use native.Mathlib.Omega.{arith}
 use Prim.Native.Nat.{_+_}
 use lib.ListN.{take}
 use Rattle.std.proofs.shelf.Tests.{false≢true}
@@ -23,7 +24,7 @@ returns-then-not-self c =
     let i = c .args .self .now in
     elim (c .then-not-self .came) [
       | then-not-self·by·then-not-self w ↦ record { next = follows-refused i _ WrongRound (settle-none (view i) (c .args .round .tick) (w .if-not-self .taken)); kept = λ _. refl; back = refl }
-      | then-not-self·by·else-not-self·then-round-clock w ↦ record { next = follows-refused i _ WrongRound (settle-other (view i) (c .args .round .tick) (w .if-not-self .left) (λ e. w .if-round-clock .taken (e ∙ sym (w .clock .ensures .answer)))); kept = λ _. refl; back = refl }
+      | then-not-self·by·else-not-self·then-round-clock w ↦ record { next = follows-refused i _ WrongRound (settle-other (view i) (c .args .round .tick) (w .if-not-self .left) (λ e. omega (arith, w .if-round-clock .taken, w .clock .ensures .answer, e))); kept = λ _. refl; back = refl }
     ]
 
 pub ghost-self : need.ghost-self
@@ -39,7 +40,7 @@ returns c =
     let told = c .tick .ensures in
     let later = tick-answer t (c .in-Ok .clock) going (sym (c .in-Ok .is) ∙ told .answer) in
     record {
-      next = follows-answered i _ _ _ _ _ (settle-done (view i) (c .args .round .tick) (c .if-not-self .left) (c .if-round-clock .left ∙ c .clock .ensures .answer)) (ap Clock later) (record {
+      next = follows-answered i _ _ _ _ _ (settle-done (view i) (c .args .round .tick) (c .if-not-self .left) (omega (arith, c .if-round-clock .left, c .clock .ensures .answer))) (ap Clock later) (record {
         clock = told .clock ∙ tick-clock t going;
         live = told .live ∙ tick-live _ t _ going ∙ ticked-same (i .cores) (t + 1) (i .picks .names) (liveOf (i .table)) (i .unnamed) ∙ ap (λ b. map (λ r. refilled (t + 1) (chargedIf (cond b (take (i .cores) (i .picks .names)) []) r)) (liveOf (i .table))) (sym (c .if-not-self .left));
         ledger = c .purge .ensures ∙ ap (λ n. queue lapsesFirst (purged n (entries (i .ledger)))) later;
