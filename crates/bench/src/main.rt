@@ -1,4 +1,6 @@
 // Reads a plan from standard input, and prints its report.
+#![tactic(auto)]
+
 use report::report;
 use std::io;
 use std::io::Read;

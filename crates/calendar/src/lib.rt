@@ -1,4 +1,6 @@
 // An ordered queue in the caller's places, for every kind of element that has a total order.
+#![tactic(auto)]
+
 ghost use Rattle.std.specs.Prelude.{◌≡◌, Bool};
 ghost use Rattle.calendar.specs.Orders.{Total};
 ghost use Rattle.calendar.specs.Places.{counting};

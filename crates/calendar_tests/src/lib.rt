@@ -1,4 +1,6 @@
 // The calendar tried on the engine's two kinds of element.
+#![tactic(auto)]
+
 ghost use Rattle.calendar_tests.specs.Keys.{sooner, lapses, entry_figures};
 ghost use Rattle.std.proofs.Common.{rules, arith};
 ghost use Rattle.calendar.proofs.Ranks.{total_by};

@@ -1,4 +1,6 @@
 // Prints the report of each plan file that the arguments name.
+#![tactic(auto)]
+
 use report::report;
 use std::{env, fs, io};
 

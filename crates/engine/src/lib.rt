@@ -1,4 +1,6 @@
 // The reservation engine: it admits reservations, places them on cores, deals ticks by earliest deadline first, and charges them.
+#![tactic(auto)]
+
 mod answers;
 mod engine;
 mod inner;

@@ -1,4 +1,6 @@
 // Trials of the engine by its public calls, for what a plan cannot reach.
+#![tactic(auto)]
+
 #[cfg(test)]
 mod limits;
 #[cfg(test)]

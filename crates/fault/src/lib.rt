@@ -1,4 +1,6 @@
 // What can be wrong with a plan, in three layers: bits, inside a record, inside the plan.
+#![tactic(auto)]
+
 ghost use Rattle.std.specs.Prelude.{◌≡◌, ◌++◌, Some, codes, decimal};
 ghost use Rattle.fault.specs.declared.PlanFault.TheVariants.{Record};
 ghost use Rattle.fault.specs.declared.RecordFault.TheVariants.{Bits};

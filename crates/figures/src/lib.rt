@@ -1,4 +1,6 @@
 // The worked figures, proved of the definitions and shown by the code.
+#![tactic(auto)]
+
 ghost use Rattle.std.specs.Prelude.{◌≡◌, true};
 ghost use Rattle.figures.specs.Figures.{Figures};
 ghost use Rattle.figures.specs.Parts.{parts_of};

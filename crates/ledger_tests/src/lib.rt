@@ -1,4 +1,5 @@
 // The ledger tried at its limits.
+#![tactic(auto)]
 
 #[cfg(test)]
 mod tests {

@@ -1,4 +1,6 @@
 // Measures of terms: how many parts of a core's whole a reservation needs.
+#![tactic(auto)]
+
 ghost use Rattle.std.specs.Prelude.{◌≡◌, ℕ, Option};
 ghost use Rattle.measure.specs.Laws.{Lawful};
 

@@ -1,4 +1,6 @@
 // Plan files, read exactly: a header, then events of eight bytes each.
+#![tactic(auto)]
+
 mod event;
 mod events;
 mod field;

@@ -1,4 +1,6 @@
 // Plans that are cut, flipped, out of range or too long, with what is told of each.
+#![tactic(auto)]
+
 #[cfg(test)]
 mod cuts;
 #[cfg(test)]

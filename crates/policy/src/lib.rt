@@ -1,4 +1,6 @@
 // Policies of placement: which core is to take a reservation.
+#![tactic(auto)]
+
 ghost use Rattle.std.specs.Prelude.{◌≡◌, ℕ, List, Option};
 ghost use Rattle.policy.specs.Laws.{Lawful};
 

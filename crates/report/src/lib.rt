@@ -1,4 +1,6 @@
 // From a plan's bytes to the lines of its report.
+#![tactic(auto)]
+
 mod line;
 mod lines;
 mod notes;

@@ -1,4 +1,6 @@
 // The rules of the engine as one model: its plain types are here, its definitions in specs/.
+#![tactic(auto)]
+
 mod making;
 mod order;
 mod types;

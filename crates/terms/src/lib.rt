@@ -1,4 +1,6 @@
 // The terms of a reservation, and every refusal of the engine.
+#![tactic(auto)]
+
 mod refusals;
 mod ticks;
 
