@@ -14,7 +14,7 @@ impl Calendar {
         ensures answer { result ≡ put_answer self.old places.old }
         ensures next { self.new ≡ put_calendar self.old places.old }
         ensures written { places.new ≡ put_places x self.old places.old }
-        ensures ordered { queue before (held self.new places.new) ≡ put_queue before x self.old places.old }
+        ensures ordered { queue T.before (held self.new places.new) ≡ put_queue T.before x self.old places.old }
     {
         if self.count >= places.len() {
             return Err(Refusal::CalendarFull);
@@ -26,8 +26,8 @@ impl Calendar {
 
     // The least, or none of an empty calendar.
     pub fn least<T: Order>(&self, places: &[T]) -> Option<T>
-        ensures answer { result ≡ first (queue before (held self.now places.now)) }
-        ensures least { Least before (held self.now places.now) result }
+        ensures answer { result ≡ first (queue T.before (held self.now places.now)) }
+        ensures least { Least T.before (held self.now places.now) result }
     {
         let n = self.within(places.len());
         if n == 0 {
@@ -38,9 +38,9 @@ impl Calendar {
 
     // Takes the least out.
     pub fn take_least<T: Order>(&mut self, places: &mut [T]) -> Option<T>
-        ensures answer { result ≡ first (queue before (held self.old places.old)) }
+        ensures answer { result ≡ first (queue T.before (held self.old places.old)) }
         ensures next { self.new ≡ less result self.old places.old }
-        ensures ordered { queue before (held self.new places.new) ≡ after (queue before (held self.old places.old)) }
+        ensures ordered { queue T.before (held self.new places.new) ≡ after (queue T.before (held self.old places.old)) }
         ensures written { OneWritten (size self.old places.old) places.old places.new }
         ensures kept { Kept result places.old places.new }
     {
@@ -54,9 +54,9 @@ impl Calendar {
 
     // Takes one copy of `x` out, where it is held.
     pub fn take_one<T: Order>(&mut self, places: &mut [T], x: T) -> Option<T>
-        ensures answer { result ≡ named before x (held self.old places.old) }
+        ensures answer { result ≡ named T.before x (held self.old places.old) }
         ensures next { self.new ≡ less result self.old places.old }
-        ensures ordered { queue before (held self.new places.new) ≡ without before x (queue before (held self.old places.old)) }
+        ensures ordered { queue T.before (held self.new places.new) ≡ without T.before x (queue T.before (held self.old places.old)) }
         ensures written { OneWritten (size self.old places.old) places.old places.new }
         ensures kept { Kept result places.old places.new }
     {
@@ -69,8 +69,8 @@ impl Calendar {
 
     // How many copies of `x` are held. Its contract says too, by such counts, what the sorted list of a calendar is.
     pub fn copies_of<T: Order>(&self, places: &[T], x: T) -> usize
-        ensures answer { result ≡ copies before x (held self.now places.now) }
-        ensures meaning { Bag before (held self.now places.now) }
+        ensures answer { result ≡ copies T.before x (held self.now places.now) }
+        ensures meaning { Bag T.before (held self.now places.now) }
     {
         let n = self.within(places.len());
         let mut seen = 0;

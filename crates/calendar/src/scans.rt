@@ -8,7 +8,7 @@ use super::Order;
 // The place of a least one among the first `n`.
 pub(super) fn least_place<T: Order>(places: &[T], n: usize) -> usize
     requires { (0 < n) × (n ≤ length places.now) }
-    ensures { LeastAt before places.now n result }
+    ensures { LeastAt T.before places.now n result }
 {
     let mut place = 0;
     let mut least = places[0];
@@ -25,7 +25,7 @@ pub(super) fn least_place<T: Order>(places: &[T], n: usize) -> usize
 // A place of `x` among the first `n`, or none.
 pub(super) fn place_of<T: Order>(places: &[T], n: usize, x: T) -> Option<usize>
     requires { n ≤ length places.now }
-    ensures { FoundAt before x (take n places.now) result }
+    ensures { FoundAt T.before x (take n places.now) result }
 {
     for i in 0..n {
         if alike(x, places[i]) {
@@ -37,7 +37,7 @@ pub(super) fn place_of<T: Order>(places: &[T], n: usize, x: T) -> Option<usize>
 
 // Whether the two are the same: each is at most the other.
 pub(super) fn alike<T: Order>(x: T, y: T) -> bool
-    ensures { result ≡ same before x y }
+    ensures { result ≡ same T.before x y }
 {
     x.at_most(y) && y.at_most(x)
 }

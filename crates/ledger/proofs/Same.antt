@@ -1,6 +1,6 @@
 -- What two lists with the same entries have in common.
 -- Assumes nothing.
-use Rattle.std.proofs.Common.{◌≡◌, ℕ, ◌+◌, Bool, cond, ltb, List, [], ◌∷◌, length, filter, sym, refl, ap, ◌∙◌, arith}
+use Rattle.std.proofs.Common.{◌≡◌, ℕ, ◌+◌, Bool, cond, ltb, List, ◌∷◌, length, filter, sym, refl, ap, ◌∙◌, arith}
 use Rattle.std.proofs.lemmas.Bool.{cond_both}
 use Rattle.calendar.specs.Queues.{filed, queue}
 use Rattle.calendar.proofs.Counts.{fold_queue, length_queue}

@@ -1,5 +1,5 @@
 -- The two measures. Words: rounded_whole, rounded, catalogue_whole, rows, catalogue.
-use Rattle.std.specs.Prelude.{ℕ, ◌+◌, ◌-◌, ◌*◌, ◌/◌, Bool, true, false, cond, ◌&&◌, List, [], ◌∷◌, Some, None, Option, ◌==◌}
+use Rattle.std.specs.Prelude.{ℕ, ◌+◌, ◌-◌, ◌*◌, ◌/◌, cond, ◌&&◌, List, [], ◌∷◌, Some, None, Option, ◌==◌}
 
 -- The whole of the rounded measure.
 abbrev pub rounded_whole : ℕ

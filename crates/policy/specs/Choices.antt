@@ -1,5 +1,5 @@
 -- What the three fits choose. Words: beats, beaten, lowest, chosen, first_fit, worst_fit, best_fit.
-use Rattle.std.specs.Prelude.{ℕ, suc, Bool, true, false, cond, not, ◌&&◌, List, [], ◌∷◌, Some, None, Option, nat_le, nat_lt, slice_index}
+use Rattle.std.specs.Prelude.{ℕ, suc, Bool, false, cond, not, ◌&&◌, List, [], ◌∷◌, Some, None, Option, nat_le, nat_lt, slice_index}
 use Rattle.std.specs.Option.{option_map}
 use Rattle.policy.specs.declared.fits.Fit.{Fit}
 use Rattle.policy.specs.declared.fits.Fit.TheVariants.{First, Worst, Best}

@@ -1,5 +1,5 @@
 -- Words on lists that the rules use: sums, and the reservation of a number in a list.
-use Rattle.std.specs.Prelude.{ℕ, ◌+◌, Bool, cond, List, [], ◌∷◌, Some, None, Option, ◌==◌}
+use Rattle.std.specs.Prelude.{ℕ, ◌+◌, cond, List, [], ◌∷◌, Some, None, Option, ◌==◌}
 use Rattle.rules.specs.declared.types.Reservation.{Reservation}
 
 -- The sum of f over a list.

@@ -1,5 +1,5 @@
 -- What can be asked of an engine; a question changes nothing.
-use Rattle.std.specs.Prelude.{ℕ, Bool, cond, List, length, Some, None, Ok, Err, Option, Result, nat_lt, slice_index_or}
+use Rattle.std.specs.Prelude.{ℕ, cond, length, None, Ok, Err, Option, Result, nat_lt, slice_index_or}
 use Rattle.std.specs.Option.{ok_or}
 use Rattle.terms.specs.declared.refusals.Refusal.{Refusal}
 use Rattle.terms.specs.declared.refusals.Refusal.TheVariants.{NoCore, NoReservation}

@@ -1,7 +1,7 @@
 -- The constant bandwidth server of one reservation: waking, filling, charging, and the 0-lag time.
 -- Subtraction stops at 0. That is right in each test of deadline − clock: once the deadline has passed the difference is below zero,
 -- and so is the product, and no budget is below it; with 0 in its place the test answers alike.
-use Rattle.std.specs.Prelude.{ℕ, ◌+◌, ◌-◌, ◌*◌, ◌/◌, Bool, true, false, cond, not, ◌&&◌, ◌||◌, List, [], ◌∷◌, Some, None, Option, ◌==◌, nat_le, nat_lt, slice_index_or}
+use Rattle.std.specs.Prelude.{ℕ, ◌+◌, ◌-◌, ◌*◌, ◌/◌, Bool, true, false, cond, ◌&&◌, List, Some, None, Option, ◌==◌, nat_le, nat_lt, slice_index_or}
 use Rattle.rules.specs.declared.types.Reservation.{Reservation}
 use Rattle.rules.specs.declared.types.State.{State}
 use Rattle.rules.specs.declared.types.State.TheVariants.{Ready, Spent, Resting}

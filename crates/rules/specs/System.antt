@@ -1,5 +1,5 @@
 -- The whole state of an engine.
-use Rattle.std.specs.Prelude.{ℕ, Bool, true, false, List, [], ◌∷◌, Option}
+use Rattle.std.specs.Prelude.{ℕ, Bool, false, List, [], Option}
 use Rattle.rules.specs.declared.types.Reservation.{Reservation}
 use Rattle.rules.specs.declared.types.Entry.{Entry}
 use Rattle.rules.specs.Setup.{Setup}

@@ -1,12 +1,11 @@
 -- The first of a core's ready keys is that of the reservation that the core is dealt to.
-use Rattle.std.proofs.Common.{◌≡◌, ℕ, zero, suc, ◌+◌, ◌-◌, ◌<◌, cond, List, [], ◌∷◌, ◌++◌, map, length, get_or, set, replicate, Some, None, Option, sym, refl, ap, ◌∙◌, add-one, arith}
+use Rattle.std.proofs.Common.{◌≡◌, ℕ, zero, suc, ◌+◌, ◌-◌, ◌<◌, List, [], ◌∷◌, ◌++◌, map, length, get_or, set, replicate, Some, None, Option, sym, refl, ap, ◌∙◌, add-one, arith}
 use Rattle.std.specs.Option.{option_map}
 use Rattle.std.specs.List.{filter}
 use Rattle.std.proofs.lemmas.List.{append_assoc, get_or_default, set-append_right}
-use Rattle.calendar.specs.Queues.{filed, queue, first}
+use Rattle.calendar.specs.Queues.{queue, first}
 use Rattle.rules.specs.declared.types.Reservation.{Reservation}
 use Rattle.rules.specs.Dealing.{sooner, earliest, is_ready_on, pick, picks_from, picks}
-use Rattle.table.specs.declared.keys.Key.{Key}
 use Rattle.table.specs.declared.keys.Queue.{Queue}
 use Rattle.table.specs.declared.inner.Inner.{Inner}
 use Rattle.table.specs.Keys.{no_queue, ready_keys, waiting}

@@ -18,8 +18,8 @@ returns g c =
     let cal = c.args.self.now in
     let xs = c.args.places.now in
     let n = c.within-n.result in
-    let place = c.least-place.result in
+    let place = c.least_place.result in
     let lowest : LeastAt g.T.Order.before xs n place = search rules in
-    let split = least_first o xs cal.count n place c.index-places-least-place.result c.within-n.ensures lowest c.index-places-least-place.is in
+    let split = least_first o xs cal.count n place c.index-places-least_place.result c.within-n.ensures lowest c.index-places-least_place.is in
     let is = sym (ap first split) in
     record { answer = is; least = least_is o (held cal xs) _ is }

@@ -22,12 +22,12 @@ returns g c =
     let cal = c.args.self.now in
     let xs = c.args.places.now in
     let n = c.within-n.result in
-    let place = c.least-place-place.result in
-    let r = c.take-at.result in
-    let out = c.take-at.ensures in
+    let place = c.least_place-place.result in
+    let r = c.take_at.result in
+    let out = c.take_at.ensures in
     let lowest : LeastAt g.T.Order.before xs n place = search rules in
     let split = least_first o xs cal.count n place r c.within-n.ensures lowest out.answer in
-    let done = taken o cal c.take-at.new.self xs c.take-at.new.places n place r c.within-n.ensures lowest.0 out.answer out.next out.written in
+    let done = taken o cal c.take_at.new.self xs c.take_at.new.places n place r c.within-n.ensures lowest.0 out.answer out.next out.written in
     record {
       answer = sym (ap first split);
       next = done.next;

@@ -13,11 +13,11 @@ returns-in-Some g c =
     let x = c.args.x in
     let n = c.within-n.result in
     let place = c.in-Some.place in
-    let r = c.take-at.result in
-    let out = c.take-at.ensures in
+    let r = c.take_at.result in
+    let out = c.take_at.ensures in
     let at : r ≡ get_or xs place r = search rules in
     let got = found o xs cal.count n place x r c.within-n.ensures c.in-Some.ensures at in
-    let done = taken o cal c.take-at.new.self xs c.take-at.new.places n place r c.within-n.ensures got.2 at out.next out.written in
+    let done = taken o cal c.take_at.new.self xs c.take_at.new.places n place r c.within-n.ensures got.2 at out.next out.written in
     record {
       answer = rw got.1 (ap Some got.0);
       next = done.next;

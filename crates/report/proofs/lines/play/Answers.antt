@@ -26,12 +26,12 @@ returns-in-None g c =
     let ran = c.in-Ok.ensures in
     let h = c.args.header.now in
     let steps = c.args.steps.now in
-    let given = take_all_of c.figures-of-figures.result c.core-bounds-bounds.result.now c.figures-of-figures.ensures.front ∙ c.core-bounds-bounds.ensures in
+    let given = take_all_of c.figures_of-figures.result c.core_bounds-bounds.result.now c.figures_of-figures.ensures.front ∙ c.core_bounds-bounds.ensures in
     let whole = g.M.Measure.whole c.args.measure in
     let price = g.M.Measure.price c.args.measure in
     let choice = g.P.Policy.choice c.args.policy in
     let notes = c.run.new.observer in
-    let figures = take (length c.core-bounds-bounds.result.now - 0) c.figures-of-figures.result in
+    let figures = take (length c.core_bounds-bounds.result.now - 0) c.figures_of-figures.result in
     let s = setup_of whole price choice figures h.start in
     made_map c.close.result _ _
     (λ v told.
@@ -41,5 +41,5 @@ returns-in-None g c =
 pub returns-in-Err : goal.returns-in-Err
 returns-in-Err g c =
     let refused = c.in-Err.ensures in
-    let given = take_all_of c.figures-of-figures.result c.core-bounds-bounds.result.now c.figures-of-figures.ensures.front ∙ c.core-bounds-bounds.ensures in
+    let given = take_all_of c.figures_of-figures.result c.core_bounds-bounds.result.now c.figures_of-figures.ensures.front ∙ c.core_bounds-bounds.ensures in
     ap (map line_text) c.new.ensures.items ∙ refused_lines (g.M.Measure.whole c.args.measure) (g.M.Measure.price c.args.measure) (g.P.Policy.choice c.args.policy) c.args.header.now c.args.steps.now _ given _ refused.0.refused

@@ -8,9 +8,9 @@ use Rattle.report.proofs.lines.reservation_line.Goals as goal
 pub unreachable-requires : goal.unreachable-requires
 unreachable-requires g c =
     let live = (shown c.args.engine.now).live in
-    none_some live c.args.place c.requires (sym c.live-at.ensures ∙ c.in-None.is)
+    none_some live c.args.place c.requires (sym c.live_at.ensures ∙ c.in-None.is)
 
 pub returns : goal.returns
 returns g c = λ d.
     let live = (shown c.args.engine.now).live in
-    ap ran_line (taken_out live c.args.place d c.in-Some.row c.requires (sym c.live-at.ensures ∙ c.in-Some.is))
+    ap ran_line (taken_out live c.args.place d c.in-Some.row c.requires (sym c.live_at.ensures ∙ c.in-Some.is))

@@ -8,7 +8,7 @@ use Rattle.report.proofs.steps.steps_of.Goals as goal
 pub loop-event-preserved : goal.loop-event-preserved
 loop-event-preserved c = (
   omega (arith, c.loop-event-test.true),
-  c.in-ok-push.ensures.items ∙ (λ j. c.loop-event.invariant.1 j ++ (c.step-of.ensures j ∷ [])) ∙ sym (map_more (λ e. step_of (row_of e)) c.args.events.now c.loop-event.event-index _ c.loop-event-test.true),
+  c.in_ok-push.ensures.items ∙ (λ j. c.loop-event.invariant.1 j ++ (c.step_of.ensures j ∷ [])) ∙ sym (map_more (λ e. step_of (row_of e)) c.args.events.now c.loop-event.event-index _ c.loop-event-test.true),
 )
 
 pub returns : goal.returns

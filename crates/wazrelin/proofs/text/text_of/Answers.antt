@@ -18,7 +18,7 @@ wrote lines i d (Err x) h e ok p = absurd (subst T (sym ok) tt)
 pub loop-line-preserved : goal.loop-line-preserved
 loop-line-preserved c = (
   omega (arith, c.loop-line-test.true),
-  wrote c.args.lines.now c.loop-line.line-index _ c.writeln.result c.loop-line-test.true c.loop-line.invariant.1 c.if-is-err.ensures.negation c.writeln.ensures.bytes,
+  wrote c.args.lines.now c.loop-line.line-index _ c.writeln.result c.loop-line-test.true c.loop-line.invariant.1 c.if-is_err.ensures.negation c.writeln.ensures.bytes,
 )
 
 pub returns : goal.returns

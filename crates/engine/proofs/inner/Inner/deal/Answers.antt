@@ -21,29 +21,20 @@ returns-then-tick c =
     let i = c.args.self.now in
     record { next = follows_refused i _ ClockEnd (deal_end (bare 0 i) (view i) c.if-self.false (omega (arith, c.clock-tick.ensures.answer, c.if-tick.true))); kept = λ _. refl }
 
-pub invariant-of-self : goal.invariant-of-self
-invariant-of-self c =
+pub invariant_of-self : goal.invariant_of-self
+invariant_of-self c =
     let i = c.args.self.now in
     let is = c.picks-self.ensures in
-    let tick = c.clock-tick.ensures in (
-      i.few,
-      (
-        i.sized,
-        (
-          i.made,
-          (
-            i.numbered,
-            (
-              ap length is ∙ dealt_long i.cores (live_of i.table) i.few,
-              (
-                ap (none_from i.cores) is ∙ dealt_none i.cores (live_of i.table) i.few,
-                (going_on (clock_of i.table) i.table.clocked (λ e. omega (arith, c.if-tick.false, tick.answer, e)), tt),
-              ),
-            ),
-          ),
-        ),
-      ),
-    )
+    let tick = c.clock-tick.ensures in
+    record {
+      few = i.few;
+      sized = i.sized;
+      made = i.made;
+      numbered = i.numbered;
+      named = ap length is ∙ dealt_long i.cores (live_of i.table) i.few;
+      unnamed = ap (none_from i.cores) is ∙ dealt_none i.cores (live_of i.table) i.few;
+      lasts = going_on (clock_of i.table) i.table.clocked (λ e. omega (arith, c.if-tick.false, tick.answer, e));
+    }
 
 pub returns : goal.returns
 returns c =

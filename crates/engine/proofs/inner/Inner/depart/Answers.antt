@@ -1,4 +1,4 @@
-use Rattle.std.proofs.Common.{◌<◌, true, false, cond, sym, refl, ap, ◌∙◌, arith}
+use Rattle.std.proofs.Common.{◌<◌, cond, sym, refl, ap, ◌∙◌, arith}
 use Rattle.std.proofs.lemmas.Bool.{false≢true}
 use Rattle.rules.specs.declared.types.Answer.TheVariants.{Refused}
 use Rattle.terms.specs.declared.refusals.Refusal.TheVariants.{LedgerFull}

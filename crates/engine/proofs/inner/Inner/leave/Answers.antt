@@ -1,4 +1,4 @@
-use Rattle.std.proofs.Common.{true, false, is_err, sym, refl, ap, ◌∙◌}
+use Rattle.std.proofs.Common.{is_err, sym, refl, ap, ◌∙◌}
 use Rattle.std.proofs.lemmas.Bool.{false≢true}
 use Rattle.terms.specs.declared.refusals.Refusal.TheVariants.{RoundOut, NoReservation}
 use Rattle.rules.specs.Lists.{without}
@@ -15,10 +15,10 @@ returns-then-self c =
     let i = c.args.self.now in
     record { next = follows_refused i _ RoundOut (leave_out (view i) c.args.number c.if-self.true); kept = λ _. refl }
 
-pub returns-in-default : goal.returns-in-default
-returns-in-default c =
+pub returns-in_default : goal.returns-in_default
+returns-in_default c =
     let i = c.args.self.now in
-    record { next = follows_refused i _ NoReservation (leave_none (view i) c.args.number c.if-self.false (sym c.find.ensures ∙ c.in-default.is)); kept = λ _. refl }
+    record { next = follows_refused i _ NoReservation (leave_none (view i) c.args.number c.if-self.false (sym c.find.ensures ∙ c.in_default.is)); kept = λ _. refl }
 
 pub returns-in-Err : goal.returns-in-Err
 returns-in-Err c =

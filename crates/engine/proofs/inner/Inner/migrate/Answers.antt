@@ -1,7 +1,6 @@
-use Rattle.std.proofs.Common.{◌<◌, ◌≤◌, true, false, length, is_err, sym, refl, ap, ◌∙◌, arith}
+use Rattle.std.proofs.Common.{◌<◌, ◌≤◌, length, is_err, sym, refl, ap, ◌∙◌, arith}
 use Rattle.std.proofs.lemmas.Bool.{false≢true}
 use Rattle.terms.specs.declared.refusals.Refusal.TheVariants.{NoCore, RoundOut, NoReservation, NoRoom, SameCore, Behind}
-use Rattle.rules.specs.Lists.{find}
 use Rattle.rules.specs.Parts.{room}
 use Rattle.rules.specs.Server.{is_behind}
 use Rattle.table.specs.Calls.{transfer_live}
@@ -26,11 +25,11 @@ returns-then-self c =
     let some : c.args.core < length (figures_of i) = omega (arith, figures_long i, c.if-core-self.false) in
     record { next = follows_refused i _ RoundOut (move_out (bare c.args.whole i) (view i) c.args.number c.args.core some c.if-self.true); kept = λ _. refl }
 
-pub returns-in-default : goal.returns-in-default
-returns-in-default c =
+pub returns-in_default : goal.returns-in_default
+returns-in_default c =
     let i = c.args.self.now in
     let some : c.args.core < length (figures_of i) = omega (arith, figures_long i, c.if-core-self.false) in
-    record { next = follows_refused i _ NoReservation (move_none (bare c.args.whole i) (view i) c.args.number c.args.core some c.if-self.false (sym c.find.ensures ∙ c.in-default.is)); kept = λ _. refl }
+    record { next = follows_refused i _ NoReservation (move_none (bare c.args.whole i) (view i) c.args.number c.args.core some c.if-self.false (sym c.find.ensures ∙ c.in_default.is)); kept = λ _. refl }
 
 pub returns-then-row-core : goal.returns-then-row-core
 returns-then-row-core c =
@@ -38,18 +37,18 @@ returns-then-row-core c =
     let some : c.args.core < length (figures_of i) = omega (arith, figures_long i, c.if-core-self.false) in
     record { next = follows_refused i _ SameCore (move_same (bare c.args.whole i) (view i) c.args.number c.args.core c.in-Some.row some c.if-self.false (sym c.find.ensures ∙ c.in-Some.is) c.if-row-core.true); kept = λ _. refl }
 
-pub returns-then-is-behind : goal.returns-then-is-behind
-returns-then-is-behind c =
+pub returns-then-is_behind : goal.returns-then-is_behind
+returns-then-is_behind c =
     let i = c.args.self.now in
     let some : c.args.core < length (figures_of i) = omega (arith, figures_long i, c.if-core-self.false) in
-    let behind = ap (λ t. is_behind t c.in-Some.row) (sym c.clock.ensures.answer) ∙ sym c.is-behind.ensures ∙ c.if-is-behind.true in
+    let behind = ap (λ t. is_behind t c.in-Some.row) (sym c.clock.ensures.answer) ∙ sym c.is_behind.ensures ∙ c.if-is_behind.true in
     record { next = follows_refused i _ Behind (move_behind (bare c.args.whole i) (view i) c.args.number c.args.core c.in-Some.row some c.if-self.false (sym c.find.ensures ∙ c.in-Some.is) c.if-row-core.false behind); kept = λ _. refl }
 
 pub returns-then-room-row : goal.returns-then-room-row
 returns-then-room-row c =
     let i = c.args.self.now in
     let some : c.args.core < length (figures_of i) = omega (arith, figures_long i, c.if-core-self.false) in
-    let ahead = ap (λ t. is_behind t c.in-Some.row) (sym c.clock.ensures.answer) ∙ sym c.is-behind.ensures ∙ c.if-is-behind.false in
+    let ahead = ap (λ t. is_behind t c.in-Some.row) (sym c.clock.ensures.answer) ∙ sym c.is_behind.ensures ∙ c.if-is_behind.false in
     let crowded : room (bare c.args.whole i) (view i) c.args.core < c.in-Some.row.parts = omega (arith, c.room.ensures, c.if-room-row.true) in
     record { next = follows_refused i _ NoRoom (move_crowded (bare c.args.whole i) (view i) c.args.number c.args.core c.in-Some.row some c.if-self.false (sym c.find.ensures ∙ c.in-Some.is) c.if-row-core.false ahead crowded); kept = λ _. refl }
 
@@ -58,7 +57,7 @@ returns-in-Err c =
     let i = c.args.self.now in
     let went = c.depart.ensures in
     let some : c.args.core < length (figures_of i) = omega (arith, figures_long i, c.if-core-self.false) in
-    let ahead = ap (λ t. is_behind t c.in-Some.row) (sym c.clock.ensures.answer) ∙ sym c.is-behind.ensures ∙ c.if-is-behind.false in
+    let ahead = ap (λ t. is_behind t c.in-Some.row) (sym c.clock.ensures.answer) ∙ sym c.is_behind.ensures ∙ c.if-is_behind.false in
     let roomy : c.in-Some.row.parts ≤ room (bare c.args.whole i) (view i) c.args.core = omega (arith, c.room.ensures, c.if-room-row.false) in
     let full = departure_refused (view i) c.in-Some.row c.in-Err.refusal (ap departed (sym c.in-Err.is) ∙ went.next.answer) in
     refused_alike i _ _ c.in-Err.refusal (move_full (bare c.args.whole i) (view i) c.args.number c.args.core c.in-Some.row some c.if-self.false (sym c.find.ensures ∙ c.in-Some.is) c.if-row-core.false ahead roomy full.0 ∙ ap refused (sym full.1)) (went.kept (ap is_err c.in-Err.is))
@@ -69,7 +68,7 @@ returns c =
     let went = c.depart.ensures in
     let some : c.args.core < length (figures_of i) = omega (arith, figures_long i, c.if-core-self.false) in
     let eight : c.args.core < 8 = omega (arith, i.few, c.if-core-self.false) in
-    let ahead = ap (λ t. is_behind t c.in-Some.row) (sym c.clock.ensures.answer) ∙ sym c.is-behind.ensures ∙ c.if-is-behind.false in
+    let ahead = ap (λ t. is_behind t c.in-Some.row) (sym c.clock.ensures.answer) ∙ sym c.is_behind.ensures ∙ c.if-is_behind.false in
     let roomy : c.in-Some.row.parts ≤ room (bare c.args.whole i) (view i) c.args.core = omega (arith, c.room.ensures, c.if-room-row.false) in
     let found = sym c.find.ensures ∙ c.in-Some.is in
     let done = departure_done (view i) c.in-Some.row c.in-Ok.departure (ap departed (sym c.in-Ok.is) ∙ went.next.answer) in

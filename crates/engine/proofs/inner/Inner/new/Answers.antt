@@ -4,15 +4,15 @@ use Rattle.engine.proofs.Inners.{made_few}
 use Rattle.engine.proofs.Rounds.{none_named}
 use Rattle.engine.proofs.inner.Inner.new.Goals as goal
 
-pub invariant-of-result : goal.invariant-of-result
-invariant-of-result c =
-    let figures = c.args.figures.now in (
-      made_few figures c.args.start c.requires,
-      (
-        c.padded.ensures.sized,
-        (
-          ap (λ bs. is_some (making bs c.args.start)) c.padded.ensures.front ∙ ap is_some c.requires,
-          (omega arith, (refl, (none_named (length figures), (refl, tt)))),
-        ),
-      ),
-    )
+pub invariant_of-result : goal.invariant_of-result
+invariant_of-result c =
+    let figures = c.args.figures.now in
+    record {
+      few = made_few figures c.args.start c.requires;
+      sized = c.padded.ensures.sized;
+      made = ap (λ bs. is_some (making bs c.args.start)) c.padded.ensures.front ∙ ap is_some c.requires;
+      numbered = omega arith;
+      named = refl;
+      unnamed = none_named (length figures);
+      lasts = refl;
+    }

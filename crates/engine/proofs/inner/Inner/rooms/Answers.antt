@@ -10,8 +10,8 @@ use Rattle.engine.proofs.inner.Inner.rooms.Goals as goal
 pub loop-core-init : goal.loop-core-init
 loop-core-init c = (refl, refl)
 
-pub offset-bounds-rooms-core : goal.offset-bounds-rooms-core
-offset-bounds-rooms-core c = let few = c.args.self.now.few in let h = c.loop-core-test.true in search rules
+pub offset_bounds-rooms-core : goal.offset_bounds-rooms-core
+offset_bounds-rooms-core c = let few = c.args.self.now.few in let h = c.loop-core-test.true in search rules
 
 pub bounds-rooms-core : goal.bounds-rooms-core
 bounds-rooms-core c = omega (arith, c.args.self.now.few, c.loop-core-test.true)

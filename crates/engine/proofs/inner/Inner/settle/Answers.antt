@@ -22,10 +22,18 @@ returns-then-not-self c =
       | then-not-self-via-else-not-self+then-round-clock w ↦ record { next = follows_refused i _ WrongRound (settle_other (view i) c.args.round.tick w.if-not-self.false (λ e. omega (arith, w.if-round-clock.true, w.clock.ensures.answer, e))); kept = λ _. refl; back = refl }
     ]
 
-pub invariant-of-self : goal.invariant-of-self
-invariant-of-self c =
+pub invariant_of-self : goal.invariant_of-self
+invariant_of-self c =
     let i = c.args.self.now in
-    (i.few, (i.sized, (i.made, (i.numbered, (refl, (none_named i.cores, (refl, tt)))))))
+    record {
+      few = i.few;
+      sized = i.sized;
+      made = i.made;
+      numbered = i.numbered;
+      named = refl;
+      unnamed = none_named i.cores;
+      lasts = refl;
+    }
 
 pub returns : goal.returns
 returns c =

@@ -7,7 +7,7 @@ use Rattle.engine.proofs.runs.steps.pass_rounds.Goals as goal
 pub returns-then-not-complete : goal.returns-then-not-complete
 returns-then-not-complete g c =
     let s = setup g.M.Measure.whole g.M.Measure.price g.P.Policy.choice c.args.engine.now in
-    let r = c.pass-round-next in
+    let r = c.pass_round-next in
     let l = c.loop-left in
     record {
       made = r.ensures.made ∙ l.invariant.0;
@@ -17,7 +17,7 @@ returns-then-not-complete g c =
 pub loop-left-preserved : goal.loop-left-preserved
 loop-left-preserved g c =
     let s = setup g.M.Measure.whole g.M.Measure.price g.P.Policy.choice c.args.engine.now in
-    let r = c.pass-round-next in
+    let r = c.pass_round-next in
     let l = c.loop-left in (
       r.ensures.made ∙ l.invariant.0,
       sofar_step (λ ρ. rounds s ρ c.args.rounds) (λ ρ. rounds s ρ l.left) (λ ρ. rounds s ρ 1) c.args.hand l.invariant.1 (λ ρ. rounds s ρ (l.left - 1)) (drives_at (λ s ρ. rounds s ρ 1) l.held l.invariant.0 c.if-not-complete.false r.ensures.drives) (λ ρ. rounds_step s ρ l.left (omega (arith, c.loop-left-test.true))),

@@ -13,7 +13,7 @@ pub returns-then-not-complete : goal.returns-then-not-complete
 returns-then-not-complete g c =
     let s = setup g.M.Measure.whole g.M.Measure.price g.P.Policy.choice c.args.engine.now in
     let xs = c.args.steps.now in
-    let r = c.perform-step-next in
+    let r = c.perform_step-next in
     let l = c.loop-step in
     let x = get_or xs l.step-index no_step in
     record {
@@ -25,7 +25,7 @@ pub loop-step-preserved : goal.loop-step-preserved
 loop-step-preserved g c =
     let s = setup g.M.Measure.whole g.M.Measure.price g.P.Policy.choice c.args.engine.now in
     let xs = c.args.steps.now in
-    let r = c.perform-step-next in
+    let r = c.perform_step-next in
     let l = c.loop-step in
     let x = get_or xs l.step-index no_step in (
       r.ensures.made ∙ l.invariant.0,

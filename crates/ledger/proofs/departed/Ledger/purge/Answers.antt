@@ -8,15 +8,15 @@ use Rattle.ledger.proofs.Lapses.{none_before_first, none_before_none, purged_non
 use Rattle.ledger.proofs.departed.Ledger.purge.Goals as goal
 use Rattle.ledger.proofs.departed.Ledger.purge.Goals.{in-Some, in-None}
 
-pub invariant-of-self : goal.invariant-of-self
-invariant-of-self c =
+pub invariant_of-self : goal.invariant_of-self
+invariant_of-self c =
     let l = c.args.self.now in
-    let es = held c.take-lapsed.new.calendar c.take-lapsed.new.places in
-    let later : none_before c.match-take-lapsed.self es ≡ true = elim c.match-take-lapsed.branch [
+    let es = held c.take_lapsed.new.calendar c.take_lapsed.new.places in
+    let later : none_before c.match-take_lapsed.self es ≡ true = elim c.match-take_lapsed.branch [
       | in-Some w ↦ rw w.self-is (none_before_first _ es w.in-Some.ensures.answer)
       | in-None w ↦ rw w.self-is (none_before_none _ es w.in-None.ensures.answer)
     ] in
-    (omega (arith, l.long), (omega (arith, l.within), (later, tt)))
+    record { long = omega (arith, l.long); within = omega (arith, l.within); later = later }
 
 pub returns-else-self-clock : goal.returns-else-self-clock
 returns-else-self-clock c =

@@ -5,14 +5,14 @@ use Rattle.ledger.specs.Entries.{entries, room_for}
 use Rattle.ledger.proofs.Lapses.{put_one}
 use Rattle.ledger.proofs.departed.Ledger.write.Goals as goal
 
-pub returns-then-len-eq-LEDGER-LIMIT : goal.returns-then-len-eq-LEDGER-LIMIT
-returns-then-len-eq-LEDGER-LIMIT c =
+pub returns-then-len-eq-LEDGER_LIMIT : goal.returns-then-len-eq-LEDGER_LIMIT
+returns-then-len-eq-LEDGER_LIMIT c =
     let full : room_for (entries c.args.self.now) ≡ false = le-ltb _ _ (omega arith) in
     rw full (record { answer = refl; next = refl; refused = λ _. refl })
 
-pub invariant-of-self : goal.invariant-of-self
-invariant-of-self c =
+pub invariant_of-self : goal.invariant_of-self
+invariant_of-self c =
     let l = c.args.self.now in
     let short : l.calendar.count < length l.places = omega (arith, length-take-le l.calendar.count l.places) in
     let done = put_one l.earliest _ c.args.entry l.calendar c.put.new.self l.places c.put.new.places (record { long = l.long; within = l.within; later = l.later }) short (omega arith) c.put.ensures.next c.put.ensures.written in
-    (done.long, (done.within, (done.later, tt)))
+    record { long = done.long; within = done.within; later = done.later }

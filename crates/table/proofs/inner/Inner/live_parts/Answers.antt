@@ -3,8 +3,8 @@ use Rattle.table.proofs.Sums.{parts_here, parts_elsewhere}
 use Rattle.table.proofs.inner.Inner.live_parts.Goals as goal
 use Rattle.table.proofs.inner.Inner.live_parts.Goals.{then-row-core, else-row-core}
 
-pub overflow-add-parts : goal.overflow-add-parts
-overflow-add-parts c = omega (arith, c.requires.count)
+pub overflow_add-parts : goal.overflow_add-parts
+overflow_add-parts c = omega (arith, c.requires.count)
 
 pub loop-place-preserved : goal.loop-place-preserved
 loop-place-preserved c =

@@ -23,8 +23,8 @@ file-requires c =
       room = room_out s c.requires.sound c.args.place c.requires.within c.unfile.new.ready c.args.row.core c.args.row out core;
     }
 
-pub returns-then-not-same-key : goal.returns-then-not-same-key
-returns-then-not-same-key c =
+pub returns-then-not-same_key : goal.returns-then-not-same_key
+returns-then-not-same_key c =
     let s = c.args.self.now in
     let within = in_live s c.requires.sound c.args.place c.requires.within in
     let out = tied_out s c.requires.sound c.args.place c.requires.within _ c.unfile.new.ready c.unfile.ensures.next in
@@ -36,13 +36,13 @@ returns-then-not-same-key c =
       live = live_set s c.requires.sound c.args.place c.requires.within c.args.row;
     }
 
-pub returns-else-not-same-key : goal.returns-else-not-same-key
-returns-else-not-same-key c =
+pub returns-else-not-same_key : goal.returns-else-not-same_key
+returns-else-not-same_key c =
     let s = c.args.self.now in
     let within = in_live s c.requires.sound c.args.place c.requires.within in
     let tied =
     tied_alike (live s) c.args.place _ c.args.row within s.ready c.requires.sound.tied
-    (λ k ks. ap (λ x. filed_on k x ks) (at_live s c.requires.sound c.args.place c.requires.within _) ∙ c.same-key.ensures c.if-not-same-key.false k ks) in
+    (λ k ks. ap (λ x. filed_on k x ks) (at_live s c.requires.sound c.args.place c.requires.within _) ∙ c.same_key.ensures c.if-not-same_key.false k ks) in
     record {
       sound = sound_set s c.requires.sound c.args.place c.requires.within c.args.row s.ready c.requires.fits c.requires.sound.sized tied;
       clock = refl;

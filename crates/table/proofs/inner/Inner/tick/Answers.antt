@@ -8,8 +8,8 @@ use Rattle.table.proofs.inner.Inner.tick.Goals as goal
 pub loop-place-init : goal.loop-place-init
 loop-place-init c = (sound_later c.args.self.now c.requires.sound c.requires.before, refl, refl, refl)
 
-pub pass-row-requires : goal.pass-row-requires
-pass-row-requires c =
+pub pass_row-requires : goal.pass_row-requires
+pass_row-requires c =
     let inv = c.loop-place.invariant in
     record {
       sound = inv.0;
@@ -22,8 +22,8 @@ pub loop-place-preserved : goal.loop-place-preserved
 loop-place-preserved c =
     let inv = c.loop-place.invariant in
     let none = newcomer 0 0 0 0 0 0 in
-    let live = over_more c.args.picks.now.names c.args.self.now c.loop-place.self c.requires.sound inv.0 c.loop-place.place c.loop-place-test.true inv.1 inv.2 inv.3 none (live c.pass-row.new.self) _ refl (c.pass-row.ensures.live none) in
-    (c.pass-row.ensures.sound, c.pass-row.ensures.clock ∙ inv.1, c.pass-row.ensures.count ∙ inv.2, live)
+    let live = over_more c.args.picks.now.names c.args.self.now c.loop-place.self c.requires.sound inv.0 c.loop-place.place c.loop-place-test.true inv.1 inv.2 inv.3 none (live c.pass_row.new.self) _ refl (c.pass_row.ensures.live none) in
+    (c.pass_row.ensures.sound, c.pass_row.ensures.clock ∙ inv.1, c.pass_row.ensures.count ∙ inv.2, live)
 
 pub returns : goal.returns
 returns c =

@@ -5,10 +5,10 @@ use Rattle.table.specs.Order.{no_later}
 use Rattle.table.proofs.Waiting.{is_same}
 use Rattle.table.proofs.keys.Queue.take.Goals as goal
 
-pub invariant-of-self : goal.invariant-of-self
-invariant-of-self c =
-    (is_same c.take-out-self.result (first (queue no_later (held c.take-out-self.new.calendar c.take-out-self.new.places))) c.take-out-self.ensures.least, tt)
+pub invariant_of-self : goal.invariant_of-self
+invariant_of-self c =
+    record { known = is_same c.take_out-self.result (first (queue no_later (held c.take_out-self.new.calendar c.take_out-self.new.places))) c.take_out-self.ensures.least }
 
 pub returns : goal.returns
 unfolding waiting capacity
-returns c = record { next = c.take-out-self.ensures.next; sized = c.take-out-self.auto.places }
+returns c = record { next = c.take_out-self.ensures.next; sized = c.take_out-self.auto.places }

@@ -1,5 +1,5 @@
 use Rattle.table.proofs.Tables.{sound_of}
 use Rattle.table.proofs.live.Table.live_parts.Goals as goal
 
-pub live-parts-requires : goal.live-parts-requires
-live-parts-requires c = sound_of c.args.self.now
+pub live_parts-requires : goal.live_parts-requires
+live_parts-requires c = sound_of c.args.self.now

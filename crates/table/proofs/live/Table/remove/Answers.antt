@@ -8,9 +8,9 @@ use Rattle.table.proofs.live.Table.remove.Goals as goal
 pub seek-requires : goal.seek-requires
 seek-requires c = sound_of c.args.self.now
 
-pub returns-in-default : goal.returns-in-default
-returns-in-default c =
-    let none = c.in-default.ensures in
+pub returns-in_default : goal.returns-in_default
+returns-in_default c =
+    let none = c.in_default.ensures in
     record {
       answer = ap (λ o. of_live o Ok) (sym none);
       clock = refl;
