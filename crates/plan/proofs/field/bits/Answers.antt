@@ -1,5 +1,4 @@
-use Rattle.std.proofs.Common.{◌+◌, ◌^◌, ◌<◌, sym, arith}
-use Rattle.plan.specs.Bits.{bits}
+use Rattle.std.proofs.Common.{◌+◌, sym, arith}
 use Rattle.plan.proofs.Fields.{bits_none, bits_more, bits_fit}
 use Rattle.plan.proofs.field.bits.Goals as goal
 
