@@ -1,5 +1,5 @@
 -- The Bs of a header, one after another.
-use Rattle.std.proofs.Common.{◌≡◌, ℕ, zero, suc, ◌+◌, ◌<◌, ◌≤◌, List, set, replicate, Ok, Err, sym, refl, ◌∙◌, ⊎_elim, add-one, arith}
+use Rattle.std.proofs.Common.{◌≡◌, ℕ, zero, suc, ◌+◌, ◌<◌, List, set, replicate, Ok, Err, refl, ⊎_elim, add-one, arith}
 use Rattle.std.proofs.lemmas.Bool.{cases_eq}
 use Rattle.fault.specs.Faults.{Fault}
 use Rattle.plan.specs.Headers.{bound_of, bounds_of}

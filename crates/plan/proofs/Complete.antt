@@ -1,5 +1,5 @@
 -- The event of a record that is there whole.
-use Rattle.std.proofs.Common.{◌≡◌, ℕ, ◌+◌, ◌*◌, ◌≤◌, Bool, true, false, List, length, take, Some, None, Ok, Err, sym, refl, ap, ◌∙◌, arith}
+use Rattle.std.proofs.Common.{◌≡◌, ℕ, ◌+◌, ◌≤◌, Bool, true, false, List, take, Some, None, Ok, Err, sym, ap, ◌∙◌, arith}
 use Rattle.fault.specs.declared.Flaw.{Flaw}
 use Rattle.fault.specs.declared.Spot.{Spot}
 use Rattle.plan.specs.declared.event.Figures.{Figures}

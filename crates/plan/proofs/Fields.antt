@@ -1,10 +1,10 @@
 -- Lemmas on bits and fields.
-use Rattle.std.proofs.Common.{◌≡◌, ℕ, zero, suc, ◌+◌, ◌-◌, ◌*◌, ◌/◌, ◌%◌, ◌^◌, ◌<◌, ◌≤◌, leb, List, length, get_or, Ok, Err, Result, sym, refl, ap, ◌∙◌, ⊎_elim, add-zero, add_assoc, add-suc, mul_assoc, pow-suc, add-one, arith, pow_mono}
+use Rattle.std.proofs.Common.{◌≡◌, ℕ, zero, suc, ◌+◌, ◌-◌, ◌*◌, ◌/◌, ◌%◌, ◌^◌, ◌<◌, ◌≤◌, List, length, get_or, Ok, Err, sym, refl, ⊎_elim, add-zero, add_assoc, add-suc, mul_assoc, pow-suc, add-one, arith, pow_mono}
 use Rattle.std.proofs.lemmas.Nat.{pow-add, mod_below, mod-pow-add, shr-shr}
 use Rattle.std.proofs.lemmas.Bool.{le-leb, lt-leb, cases_lt}
 use Rattle.fault.specs.declared.Spot.{Spot}
 use Rattle.plan.specs.Bits.{bit, bits, field_of, spot_of}
-use Rattle.fault.specs.Faults.{Fault, short}
+use Rattle.fault.specs.Faults.{short}
 
 pub bit_below : (bs : List ℕ) (i : ℕ) → bit bs i < 2
 unfolding bit

@@ -1,9 +1,9 @@
 -- What a loop over a plan's events keeps.
-use Rattle.std.proofs.Common.{◌≡◌, ℕ, suc, ◌+◌, ◌-◌, ◌*◌, ◌/◌, ◌<◌, ◌≤◌, Bool, true, false, cond, List, [], ◌∷◌, ◌++◌, length, drop, Some, None, Ok, Err, Option, Result, sym, refl, ap, ◌∙◌, subst, ⊎_elim, append_assoc, append-nil, arith, length-append, length-drop}
+use Rattle.std.proofs.Common.{◌≡◌, ℕ, suc, ◌+◌, ◌-◌, ◌*◌, ◌/◌, ◌<◌, ◌≤◌, Bool, true, false, cond, List, [], ◌∷◌, ◌++◌, length, drop, Some, None, Ok, Err, Result, sym, refl, ap, ◌∙◌, subst, ⊎_elim, append_assoc, append-nil, arith, length-drop}
 use Rattle.std.proofs.lemmas.List.{length_push}
 use Rattle.std.proofs.lemmas.Bool.{cases_lt}
 use Rattle.fault.specs.declared.Spot.{Spot}
-use Rattle.plan.specs.Bits.{field_of, spot_of, then, given}
+use Rattle.plan.specs.Bits.{spot_of, then, given}
 use Rattle.fault.specs.Faults.{Fault, trailing}
 use Rattle.plan.specs.Records.{Row, front_of, event_of}
 use Rattle.plan.specs.Plans.{Reader, is_end, placed, step_of, after_spot, events_of, first_spot, next_spot, Fresh, next_of, passed, after_of}

@@ -1,5 +1,5 @@
 -- One event after another.
-use Rattle.std.proofs.Common.{◌≡◌, ℕ, true, false, List, length, Ok, Err, sym, refl, ap, ◌∙◌}
+use Rattle.std.proofs.Common.{◌≡◌, ℕ, true, false, List, length, Ok, Err}
 use Rattle.fault.specs.declared.Spot.{Spot}
 use Rattle.plan.specs.declared.event.Kind.{Kind}
 use Rattle.plan.specs.Bits.{spot_of}

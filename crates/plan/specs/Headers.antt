@@ -1,5 +1,5 @@
 -- The layout of a plan's header.
-use Rattle.std.specs.Prelude.{ℕ, zero, suc, ◌+◌, ◌-◌, ◌*◌, ◌/◌, Bool, cond, ◌&&◌, List, replicate, Some, None, Ok, Err, Option, Result, ◌==◌, nat_le, slice_set}
+use Rattle.std.specs.Prelude.{ℕ, zero, suc, ◌+◌, ◌-◌, ◌*◌, ◌/◌, cond, ◌&&◌, List, replicate, Some, None, Ok, Option, Result, ◌==◌, nat_le, slice_set}
 use Rattle.fault.specs.declared.Flaw.{Flaw}
 use Rattle.fault.specs.declared.Spot.{Spot}
 use Rattle.plan.specs.declared.header.Header.{Header}

@@ -1,6 +1,5 @@
 -- A whole plan: a header, then events up to the end record, and nothing after it.
 use Rattle.std.specs.Prelude.{◌≡◌, ℕ, zero, suc, ◌+◌, ◌-◌, ◌/◌, Bool, true, false, cond, List, [], ◌∷◌, map, length, drop, Some, None, Ok, Err, vec_items, Option, Result, nat_le}
-use Rattle.std.specs.Option.{option_map}
 use Rattle.fault.specs.declared.Spot.{Spot}
 use Rattle.plan.specs.declared.event.Kind.{Kind}
 use Rattle.plan.specs.declared.header.Header.{Header}
@@ -8,7 +7,7 @@ use Rattle.plan.specs.declared.events.Events.{Events}
 use Rattle.plan.specs.declared.reading.Plan.{Plan}
 use Rattle.plan.specs.declared.reading.PlanError.{PlanError}
 use Rattle.plan.specs.Bits.{spot_of, then, given}
-use Rattle.fault.specs.Faults.{Fault, too_long, trailing, plan_told, told, shown}
+use Rattle.fault.specs.Faults.{Fault, too_long, trailing, plan_told}
 use Rattle.plan.specs.Headers.{header_length, header_of}
 use Rattle.plan.specs.Records.{Row, event_of, row_of}
 

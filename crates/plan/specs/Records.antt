@@ -1,5 +1,5 @@
 -- The layout of an event's record.
-use Rattle.std.specs.Prelude.{◌≡◌, ℕ, ◌≤◌, Bool, true, false, cond, List, length, take, drop, Some, None, Ok, Err, codes, Option, Result, ◌==◌}
+use Rattle.std.specs.Prelude.{◌≡◌, ℕ, ◌≤◌, Bool, true, false, cond, List, length, take, drop, Some, None, Ok, codes, Option, Result, ◌==◌}
 use Rattle.fault.specs.declared.Flaw.{Flaw}
 use Rattle.fault.specs.declared.Spot.{Spot}
 use Rattle.plan.specs.declared.event.Event.{Event}

@@ -1,5 +1,6 @@
 // A plan that ends early or late.
 use crate::helpers::*;
+use std::test::Fail;
 
 // The byte that is told where so many bytes of the sample's header are there.
 const HEADER_CUT: [u8; 10] = [0, 0, 2, 3, 3, 3, 3, 7, 7, 8];

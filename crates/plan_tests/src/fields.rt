@@ -1,5 +1,6 @@
 // Fields at their limits, and headers of 1 to 8 cores.
 use crate::helpers::*;
+use std::test::Fail;
 
 // The byte where the B of each core starts.
 const BOUND: [usize; 8] = [7, 8, 9, 10, 12, 13, 14, 15];

@@ -1,6 +1,7 @@
 // Every bit of the sample's header, and of a record of each kind, flipped.
 use crate::helpers::*;
 use std::process::Abort;
+use std::test::Fail;
 
 // From bit, to bit, cause (0 for none), byte, record.
 const HEADER_FLIPS: [(u8, u8, u8, usize, usize); 22] = [

@@ -1,6 +1,7 @@
 // Reading one event after another.
 use crate::helpers::*;
 use plan::{Kind, MeasureKind, PolicyKind, read_header};
+use std::test::Fail;
 
 const KINDS: [Kind; 9] = [
     Kind::Admit,
@@ -24,7 +25,7 @@ fn the_sample_event_by_event(rt: HostRuntime) -> Result<(), Fail> {
     assert_eq!(rt; header.measure, MeasureKind::Rounded);
     assert_eq!(rt; header.policy, PolicyKind::First);
     assert_eq!(rt; header.start, 0);
-    assert!(rt; header.core_bounds() == [1000, 1000]);
+    assert!(rt; header.core_bounds() == [1000, 1000].as_slice());
     for i in 0..9 {
         let Some(event) = events.next()? else {
             return Err(Fail::new("an event is missing"));

@@ -1,4 +1,4 @@
-use Rattle.std.proofs.Common.{sym, arith, rules}
+use Rattle.std.proofs.Common.{arith, rules}
 use Rattle.plan.proofs.Fields.{field_cut}
 use Rattle.plan.proofs.event.cut.Goals as goal
 

@@ -1,4 +1,4 @@
-use Rattle.std.proofs.Common.{sym, ap, ◌∙◌, arith}
+use Rattle.std.proofs.Common.{sym, arith}
 use Rattle.plan.proofs.Fields.{field_whole, field_cut}
 use Rattle.plan.proofs.field.field.Goals as goal
 

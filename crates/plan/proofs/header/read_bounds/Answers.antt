@@ -6,10 +6,10 @@ use Rattle.plan.proofs.header.read_bounds.Goals as goal
 pub loop-core-init : goal.loop-core-init
 loop-core-init c = bounds_none _
 
-pub returns-in-err-bounds : goal.returns-in-err-bounds
-returns-in-err-bounds c =
-    let p = err_from_is_err_and c.from-residual.result c.from-residual.ensures.1 in
-    rw (p.1, p.2) (sym (bounds_stop _ _ _ _ c.loop-core.invariant (sym c.in-err-bounds.ensures) c.args.cores (omega arith)))
+pub returns-in_err-bounds : goal.returns-in_err-bounds
+returns-in_err-bounds c =
+    let p = err_from_is_err_and c.from_residual.result c.from_residual.ensures.1 in
+    rw (p.1, p.2) (sym (bounds_stop _ _ _ _ c.loop-core.invariant (sym c.in_err-bounds.ensures) c.args.cores (omega arith)))
 
 pub loop-core-preserved : goal.loop-core-preserved
-loop-core-preserved c = bounds_more _ _ _ _ c.loop-core.invariant (sym c.in-ok-bounds.ensures)
+loop-core-preserved c = bounds_more _ _ _ _ c.loop-core.invariant (sym c.in_ok-bounds.ensures)

@@ -1,4 +1,4 @@
-use Rattle.std.proofs.Common.{◌≡◌, length, Ok}
+use Rattle.std.proofs.Common.{◌≡◌, Ok}
 use Rattle.plan.specs.Headers.{bounds_of}
 use Rattle.plan.proofs.header.read_bounds.Given as goal
 

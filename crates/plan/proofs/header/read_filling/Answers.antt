@@ -4,5 +4,5 @@ use Rattle.plan.proofs.header.read_filling.Goals as goal
 
 pub returns : goal.returns
 returns c =
-    let fits = field_fits _ _ _ _ _ (sym c.in-ok-filling.ensures) in
+    let fits = field_fits _ _ _ _ _ (sym c.in_ok-filling.ensures) in
     record { answer = search rules; room = omega arith }

@@ -7,19 +7,19 @@ use Rattle.plan.specs.Plans.{reader_of, next_of}
 use Rattle.plan.specs.Records.{row_of}
 use Rattle.plan.proofs.Gathered.{sofar_at, sofar_none, sofar_done, sofar_fault, sofar_less, sofar_more}
 use Rattle.plan.proofs.reading.gather.Goals as goal
-use Rattle.plan.proofs.reading.gather.Goals.{Else-is-err}
+use Rattle.plan.proofs.reading.gather.Goals.{Else-is_err}
 
 pub loop-events-init : goal.loop-events-init
 loop-events-init c = sofar_at refl (ap (map row_of) c.new-events.ensures.items) (sofar_none _ c.requires)
 
-pub returns-in-err-event : goal.returns-in-err-event
-returns-in-err-event c =
-    let p = err_from_is_err_and c.from-residual.result c.from-residual.ensures.1 in
-    rw (p.1, p.2) (sofar_fault c.loop-events.invariant _ c.in-err-event.ensures.answer)
+pub returns-in_err-event : goal.returns-in_err-event
+returns-in_err-event c =
+    let p = err_from_is_err_and c.from_residual.result c.from_residual.ensures.1 in
+    rw (p.1, p.2) (sofar_fault c.loop-events.invariant _ c.in_err-event.ensures.answer)
 
 -- What the reader answered.
-answered : (c : Else-is-err) → Ok (Some (row_of c.in-Some.event)) ≡ next_of (reader_of c.loop-events.reader)
-answered c = ap (λ o. Ok (option_map row_of o)) (sym c.in-Some.is) ∙ c.in-ok-event.ensures.answer
+answered : (c : Else-is_err) → Ok (Some (row_of c.in-Some.event)) ≡ next_of (reader_of c.loop-events.reader)
+answered c = ap (λ o. Ok (option_map row_of o)) (sym c.in-Some.is) ∙ c.in_ok-event.ensures.answer
 
 pub loop-events-smaller : goal.loop-events-smaller
 loop-events-smaller c =
@@ -28,9 +28,9 @@ loop-events-smaller c =
 
 pub loop-events-preserved : goal.loop-events-preserved
 loop-events-preserved c =
-    let items = chosen _ _ _ _ c.push.ensures.items c.if-is-err.ensures.negation in
+    let items = chosen _ _ _ _ c.push.ensures.items c.if-is_err.ensures.negation in
     sofar_at c.next.ensures.after (ap (map row_of) items ∙ map_push row_of _ _) (sofar_more c.loop-events.invariant _ (answered c))
 
 pub returns : goal.returns
 returns c =
-    sofar_done c.loop-events.invariant (ap (λ o. Ok (option_map row_of o)) (sym c.in-default.is) ∙ c.in-ok-event.ensures.answer)
+    sofar_done c.loop-events.invariant (ap (λ o. Ok (option_map row_of o)) (sym c.in_default.is) ∙ c.in_ok-event.ensures.answer)
