@@ -11,7 +11,7 @@ use Rattle.rules.specs.Calls.{Outcome, answered, with_round, deal}
 use Rattle.rules.specs.Dealing.{picks}
 use Rattle.rules.specs.Replay.{state_after, is_accepted, next, accepts, after, replay}
 use Rattle.rules.proofs.Steps.{Step as Accepted, admits, wakes, rests, leaves, moves, deals, settles, by_step}
-use Rattle.engine.proofs.Alike.{after_append}
+use Rattle.rules.proofs.Counts.{after_append}
 use Rattle.engine.proofs.Rounds.{deal_end, deal_done, settle_done}
 use Rattle.engine.specs.declared.runs.Step.{Step}
 use Rattle.engine.specs.Driving.{Course, before, stopped, round_on, rounds, own_call, course}

@@ -3,4 +3,4 @@ use Rattle.report.proofs.Told.{dealt_more}
 use Rattle.report.proofs.notes.NotesObserver.dealt.Goals as goal
 
 pub returns : goal.returns
-returns c = λ l seen whole. dealt_more (vec_items c.args.self.now.lines) l c.args.-names.now (seen whole)
+returns c = λ l seen whole. dealt_more (vec_items c.args.self.now.lines) l c.args._names.now (seen whole)
