@@ -1,7 +1,7 @@
 -- A queue ascends: its first is at most all, and the least of a list stands first in its queue.
 -- Assumes nothing.
 use Rattle.std.proofs.Common.{◌≡◌, ℕ, suc, ◌<◌, Bool, true, List, [], ◌∷◌, ◌++◌, length, get_or, take, drop, Some, None, sym, refl, ap, ◌∙◌, ⊎_elim, arith}
-use Rattle.std.specs.List.{AllByRecursion as All}
+use Rattle.std.specs.List.{AllByRecursion}
 use Rattle.std.proofs.lemmas.Bool.{cond-true, cond_both, cases_Bool}
 use Rattle.std.proofs.ByRecursion.{All-weaker, All-append, All-take, All-drop}
 use Rattle.calendar.specs.Orders.{Total}
@@ -11,16 +11,16 @@ use Rattle.calendar.proofs.Filing.{other_way, itself, queue_split, without_filed
 
 -- x is at most each of these
 abbrev pub Heads : {X : Type 0} → (X → X → Bool) → X → List X → Type 0
-Heads before x q = All (λ y. before x y ≡ true) q
+Heads before x q = AllByRecursion (λ y. before x y ≡ true) q
 
 module _ {X : Type 0} {before : X → X → Bool} (o : Total before) where
-  pub all_filed : (P : X → Type 0) (x : X) (q : List X) → P x → All P q → All P (filed before x q)
+  pub all_filed : (P : X → Type 0) (x : X) (q : List X) → P x → AllByRecursion P q → AllByRecursion P (filed before x q)
   all_filed P x [] px all = (px, tt)
   all_filed P x (y ∷ ys) px all =
-      cond_both (before x y) _ _ (All P) (λ _. (px, all)) (λ _. (all.0, all_filed P x ys px all.1))
+      cond_both (before x y) _ _ (AllByRecursion P) (λ _. (px, all)) (λ _. (all.0, all_filed P x ys px all.1))
 
   -- what holds of each element of a list holds of each in its queue
-  pub all_queue : (P : X → Type 0) (xs : List X) → All P xs → All P (queue before xs)
+  pub all_queue : (P : X → Type 0) (xs : List X) → AllByRecursion P xs → AllByRecursion P (queue before xs)
   all_queue P [] all = tt
   all_queue P (x ∷ xs) all = all_filed P x (queue before xs) all.0 (all_queue P xs all.1)
 
@@ -65,17 +65,17 @@ module _ {X : Type 0} {before : X → X → Bool} (o : Total before) where
       let out : without before x (queue before xs) ≡ queue before rest = ap (without before x) split ∙ without_filed o x (queue before rest) in
       split ∙ front ∙ ap (λ q. x ∷ q) (sym out)
 
-  all_unfiled : (P : X → Type 0) (x : X) (q : List X) → All P (filed before x q) → P x × All P q
+  all_unfiled : (P : X → Type 0) (x : X) (q : List X) → AllByRecursion P (filed before x q) → P x × AllByRecursion P q
   all_unfiled P x [] all = all
   all_unfiled P x (y ∷ ys) all =
       ⊎_elim
       (λ yes-x. rw yes-x at all)
-      (λ no-x. let rest : P y × All P (filed before x ys) = rw no-x at all in
+      (λ no-x. let rest : P y × AllByRecursion P (filed before x ys) = rw no-x at all in
       let more = all_unfiled P x ys rest.1 in (more.0, (rest.0, more.1)))
       (cases_Bool (before x y))
 
   -- what holds of each element in a queue holds of each in its list
-  pub all_from_queue : (P : X → Type 0) (xs : List X) → All P (queue before xs) → All P xs
+  pub all_from_queue : (P : X → Type 0) (xs : List X) → AllByRecursion P (queue before xs) → AllByRecursion P xs
   all_from_queue P [] all = tt
   all_from_queue P (x ∷ xs) all = let parts = all_unfiled P x (queue before xs) all in (parts.0, all_from_queue P xs parts.1)
 

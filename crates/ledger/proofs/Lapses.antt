@@ -1,7 +1,7 @@
 -- The earliest tick, and what a purge takes and leaves.
 -- Assumes nothing.
 use Rattle.std.proofs.Common.{◌≡◌, ℕ, ◌+◌, ◌<◌, ◌≤◌, min, Bool, true, false, leb, List, [], ◌∷◌, length, take, set, Some, None, Decides, filter, Option, sym, refl, ap, ◌∙◌, arith}
-use Rattle.std.specs.List.{AllByRecursion as All}
+use Rattle.std.specs.List.{AllByRecursion}
 use Rattle.std.proofs.ByRecursion.{All-weaker, All-push, Decides-by_and}
 use Rattle.std.proofs.lemmas.List.{take_more_set, length-set}
 use Rattle.std.proofs.lemmas.Bool.{leb-true, le-leb, lt-ltb, le-ltb, cond-true, cond-false}
@@ -21,14 +21,14 @@ use Rattle.ledger.proofs.Order.{order, first_lapses}
 abbrev From : ℕ → Entry → Type 0
 From t e = t ≤ e.lapse
 
-tells_from : (t : ℕ) (es : List Entry) → Decides (none_before t es) (All (From t) es)
+tells_from : (t : ℕ) (es : List Entry) → Decides (none_before t es) (AllByRecursion (From t) es)
 tells_from t = Decides-by_and (λ e. leb t e.lapse) (From t) (none_before t) (λ e. (leb-true t e.lapse, le-leb t e.lapse)) refl (λ _ _. refl)
 
 -- one more at the end
 none_before_more : (t : ℕ) (e : Entry) (es : List Entry) (n : ℕ) → n < length es → none_before t (take n es) ≡ true → none_before (min t e.lapse) (take (n + 1) (set es n e)) ≡ true
 none_before_more t e es n h was =
     let m : ℕ = min t e.lapse in
-    let all : All (From m) (take n es) = All-weaker (From t) (From m) (λ x le. omega arith) (take n es) ((tells_from t (take n es)).0 was) in
+    let all : AllByRecursion (From m) (take n es) = All-weaker (From t) (From m) (λ x le. omega arith) (take n es) ((tells_from t (take n es)).0 was) in
     (tells_from m (take (n + 1) (set es n e))).1 (rw (take_more_set es n e) (All-push (From m) (take n es) e all (omega arith)))
 
 -- none lapses before the least one does
@@ -39,7 +39,7 @@ none_before_first e es is =
 pub none_before_none : (t : ℕ) (es : List Entry) → None ≡ first (queue lapses_first es) → none_before t es ≡ true
 none_before_none t es is = rw (first_none order es (sym is))
 
-kept_all : (p : Entry → Bool) (es : List Entry) → All (λ e. p e ≡ true) es → filter p es ≡ es
+kept_all : (p : Entry → Bool) (es : List Entry) → AllByRecursion (λ e. p e ≡ true) es → filter p es ≡ es
 kept_all p [] all = refl
 kept_all p (e ∷ es) all = rw all.0 (ap (λ l. e ∷ l) (kept_all p es all.1))
 

@@ -1,7 +1,7 @@
 -- The plain invariant of every replay: what each live reservation keeps, the order of the numbers, the names and the ledger.
 use Rattle.std.proofs.Common.{◌≡◌, ℕ, suc, ◌+◌, ◌-◌, ◌*◌, ◌/◌, ◌<◌, ◌≤◌, Bool, true, false, cond, eqb, ltb, List, [], ◌∷◌, length, get_or, Some, None, Option, refl, ap, ◌∙◌, subst, arith}
 use lib.ListN.{length-map}
-use Rattle.std.specs.List.{AllByRecursion as All}
+use Rattle.std.specs.List.{AllByRecursion}
 use Rattle.std.proofs.lemmas.Bool.{both_ways, ltb-true, leb-true, eqb-true, eqb-false, and_parts, cond_both}
 use Rattle.std.proofs.ByRecursion.{All-weaker, All-push, All-map, kept_by_passes}
 use Rattle.terms.specs.Limits.{in_limits}
@@ -35,10 +35,10 @@ pub record Fair (s : Setup) (t given : ℕ) (r : Reservation) : Type 0 where
 
 pub record Basic (s : Setup) (σ : System) : Type 0 where
   pub ascending : Above 0 σ.live
-  pub fair : All (Fair s σ.clock σ.given) σ.live
+  pub fair : AllByRecursion (Fair s σ.clock σ.given) σ.live
   pub dealt : σ.out ≡ true → σ.names ≡ picks (length s.figures) σ.live
   pub none_dealt : σ.out ≡ false → σ.names ≡ []
-  pub lapsing : All (λ e. σ.clock < e.lapse) σ.ledger
+  pub lapsing : AllByRecursion (λ e. σ.clock < e.lapse) σ.ledger
   pub started : s.start ≤ σ.clock
 
 -- The limits as orders.
@@ -118,8 +118,8 @@ ticked_number names t r =
 pub woken_number : (t : ℕ) (r : Reservation) → (woken t r).number ≡ r.number
 woken_number t r = cond_both (keeps t r) _ _ (λ (x : Reservation). x.number ≡ r.number) (λ _. refl) (λ _. refl)
 
-lapsing_after : (σ : System) (r : Reservation) → All (λ e. σ.clock < e.lapse) σ.ledger → All (λ e. σ.clock < e.lapse) (ledger_after σ r)
-lapsing_after σ r a = cond_both (entry_due σ r) _ _ (All (λ e. σ.clock < e.lapse)) (λ e. (ltb-true σ.clock (lapse r) e, a)) (λ _. a)
+lapsing_after : (σ : System) (r : Reservation) → AllByRecursion (λ e. σ.clock < e.lapse) σ.ledger → AllByRecursion (λ e. σ.clock < e.lapse) (ledger_after σ r)
+lapsing_after σ r a = cond_both (entry_due σ r) _ _ (AllByRecursion (λ e. σ.clock < e.lapse)) (λ e. (ltb-true σ.clock (lapse r) e, a)) (λ _. a)
 
 basic_step : (s : Setup) → Lawful s → (σ : System) (c : Call) (a : Answer) (σ' : System) → Basic s σ → Step s σ c a σ' → Basic s σ'
 basic_step s law σ c a σ' b (admits q p parts core limits taken settled place number chosen) = record {

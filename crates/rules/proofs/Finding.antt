@@ -1,7 +1,7 @@
 -- What is found by its number in a list of reservations, and what changes of the list leave of it.
 use Rattle.std.proofs.Common.{◌≡◌, ℕ, ◌<◌, ◌≤◌, Bool, true, false, cond, eqb, List, [], ◌∷◌, ◌++◌, map, is_some, Some, None, Option, sym, refl, ap, ◌∙◌, subst, arith}
 use Rattle.std.specs.Option.{option_map}
-use Rattle.std.specs.List.{AllByRecursion as All}
+use Rattle.std.specs.List.{AllByRecursion}
 use Rattle.std.proofs.lemmas.Bool.{eqb-true}
 use Rattle.std.proofs.lemmas.Bool.Decides.{nat_tests}
 use Rattle.std.proofs.ByRecursion.{All-weaker}
@@ -24,7 +24,7 @@ found_number n [] r h = absurd (none_some h)
 found_number n (x ∷ xs) r h = let ih = found_number n xs r in grind (arith, nat_tests)
 
 -- What holds of all holds of the one found.
-pub found_all : (P : Reservation → Type 0) (n : ℕ) (rs : List Reservation) (r : Reservation) → All P rs → find n rs ≡ Some r → P r
+pub found_all : (P : Reservation → Type 0) (n : ℕ) (rs : List Reservation) (r : Reservation) → AllByRecursion P rs → find n rs ≡ Some r → P r
 found_all P n [] r a h = absurd (none_some h)
 found_all P n (x ∷ xs) r a h = go (eqb x.number n) (found_all P n xs r a.1) h
   where
@@ -70,19 +70,19 @@ pub find_map : (f : Reservation → Reservation) → ((x : Reservation) → (f x
 find_map f same n [] = refl
 find_map f same n (y ∷ ys) = let ih = find_map f same n ys in let e = same y in grind (arith, nat_tests)
 
-pub all_change : (P : Reservation → Type 0) (n : ℕ) (r : Reservation) (rs : List Reservation) → P r → All P rs → All P (change n r rs)
+pub all_change : (P : Reservation → Type 0) (n : ℕ) (r : Reservation) (rs : List Reservation) → P r → AllByRecursion P rs → AllByRecursion P (change n r rs)
 all_change P n r [] p a = tt
 all_change P n r (y ∷ ys) p a = go (eqb y.number n) (all_change P n r ys p a.1)
   where
-    go : (t : Bool) → All P (change n r ys) → All P (cond t (r ∷ ys) (y ∷ change n r ys))
+    go : (t : Bool) → AllByRecursion P (change n r ys) → AllByRecursion P (cond t (r ∷ ys) (y ∷ change n r ys))
     go true ih = (p, a.1)
     go false ih = (a.0, ih)
 
-pub all_without : (P : Reservation → Type 0) (n : ℕ) (rs : List Reservation) → All P rs → All P (without n rs)
+pub all_without : (P : Reservation → Type 0) (n : ℕ) (rs : List Reservation) → AllByRecursion P rs → AllByRecursion P (without n rs)
 all_without P n [] a = tt
 all_without P n (y ∷ ys) a = go (eqb y.number n) (all_without P n ys a.1)
   where
-    go : (t : Bool) → All P (without n ys) → All P (cond t ys (y ∷ without n ys))
+    go : (t : Bool) → AllByRecursion P (without n ys) → AllByRecursion P (cond t ys (y ∷ without n ys))
     go true ih = a.1
     go false ih = (a.0, ih)
 
@@ -109,7 +109,7 @@ above_without k n (y ∷ ys) a = go (eqb y.number n) (above_without y.number n y
     go true ih = let l = a.0 in above_weaker k y.number ys (omega arith) a.1
     go false ih = (a.0, ih)
 
-pub above_push : (k g : ℕ) (rs : List Reservation) (r : Reservation) → Above k rs → All (λ x. x.number ≤ g) rs → k ≤ g → g < r.number → Above k (rs ++ r ∷ [])
+pub above_push : (k g : ℕ) (rs : List Reservation) (r : Reservation) → Above k rs → AllByRecursion (λ x. x.number ≤ g) rs → k ≤ g → g < r.number → Above k (rs ++ r ∷ [])
 above_push k g [] r a b l h = (omega arith, tt)
 above_push k g (y ∷ ys) r a b l h = (a.0, above_push y.number g ys r a.1 b.1 b.0 h)
 
@@ -120,16 +120,16 @@ above_map f same k (y ∷ ys) a =
     let l = a.0 in
     (omega arith, subst (λ (m : ℕ). Above m (map f ys)) (sym e) (above_map f same y.number ys a.1))
 
-above_all : (k : ℕ) (rs : List Reservation) → Above k rs → All (λ x. k < x.number) rs
+above_all : (k : ℕ) (rs : List Reservation) → Above k rs → AllByRecursion (λ x. k < x.number) rs
 above_all k [] a = tt
 above_all k (y ∷ ys) a = (a.0, above_all k ys (above_weaker k y.number ys (let l = a.0 in omega arith) a.1))
 
-all_both : (P Q : Reservation → Type 0) (rs : List Reservation) → All P rs → All Q rs → All (λ x. P x × Q x) rs
+all_both : (P Q : Reservation → Type 0) (rs : List Reservation) → AllByRecursion P rs → AllByRecursion Q rs → AllByRecursion (λ x. P x × Q x) rs
 all_both P Q [] a b = tt
 all_both P Q (x ∷ xs) a b = ((a.0, b.0), all_both P Q xs a.1 b.1)
 
 -- Each one is found under its number.
-pub each_found : (k : ℕ) (rs : List Reservation) → Above k rs → All (λ x. find x.number rs ≡ Some x) rs
+pub each_found : (k : ℕ) (rs : List Reservation) → Above k rs → AllByRecursion (λ x. find x.number rs ≡ Some x) rs
 each_found k [] a = tt
 each_found k (y ∷ ys) a = (grind (arith, nat_tests), All-weaker (λ x. (y.number < x.number) × (find x.number ys ≡ Some x)) (λ x. find x.number (y ∷ ys) ≡ Some x) (λ x b. past x b.0 b.1) ys (all_both _ _ ys (above_all y.number ys a.1) (each_found y.number ys a.1)))
   where

@@ -2,7 +2,7 @@
 -- most what the core counts; on a core with none ready that is due up to d, the claims after the tick are those just filled.
 use Rattle.std.proofs.Common.{◌≡◌, ℕ, suc, ◌+◌, ◌*◌, ◌/◌, ◌<◌, ◌≤◌, Bool, true, false, cond, ◌&&◌, eqb, ltb, List, [], ◌∷◌, map, length, get_or, Some, None, filter, Option, sym, refl, ap, ◌∙◌, ⊎_elim, le_of_eq, mul-le-mul_left, arith}
 use Rattle.std.specs.Option.{option_map}
-use Rattle.std.specs.List.{AllByRecursion as All}
+use Rattle.std.specs.List.{AllByRecursion}
 use Rattle.std.proofs.lemmas.Bool.Decides.{nat_tests}
 use Rattle.std.proofs.lemmas.Bool.{ltb-false, eqb-true, and_parts, and_from, eq-eqb, cases_lt, cond_both}
 use Rattle.std.proofs.ByRecursion.{All-weaker, all_kept_by}
@@ -125,7 +125,7 @@ module _ (s : Setup) (law : Lawful s) (σ : System) (b : Basic s σ) (out : σ.o
   abbrev heavy : Reservation → ℕ
   heavy r = cond (eqb r.core c) (weight r.parts) 0
 
-  found : All (λ r. find r.number σ.live ≡ Some r) σ.live
+  found : AllByRecursion (λ r. find r.number σ.live ≡ Some r) σ.live
   found = each_found 0 σ.live b.ascending
 
   -- The one picked is charged a tick.

@@ -1,6 +1,6 @@
 -- Sums over a list: of one element more, one changed, one gone, some kept, and of two sums element by element.
 use Rattle.std.proofs.Common.{◌≡◌, ℕ, ◌+◌, ◌≤◌, Bool, true, false, cond, eqb, List, [], ◌∷◌, ◌++◌, map, Some, None, Option, sym, refl, ap, arith}
-use Rattle.std.specs.List.{filter, AllByRecursion as All}
+use Rattle.std.specs.List.{filter, AllByRecursion}
 use Rattle.rules.specs.declared.types.Reservation.{Reservation}
 use Rattle.rules.specs.Lists.{total, find, change, without}
 use Rattle.rules.proofs.Weights.{weight, weight_none, weight_sum}
@@ -14,7 +14,7 @@ total_map f g [] = refl
 total_map f g (x ∷ xs) = ap (λ (n : ℕ). f (g x) + n) (total_map f g xs)
 
 -- Element by element.
-pub total_le : {X : Type 0} (f g : X → ℕ) (xs : List X) → All (λ x. f x ≤ g x) xs → total f xs ≤ total g xs
+pub total_le : {X : Type 0} (f g : X → ℕ) (xs : List X) → AllByRecursion (λ x. f x ≤ g x) xs → total f xs ≤ total g xs
 total_le f g [] h = omega arith
 total_le f g (x ∷ xs) (h, hs) = omega (arith, h, total_le f g xs hs)
 
@@ -27,7 +27,7 @@ total_sum f g [] = refl
 total_sum f g (x ∷ xs) = omega (arith, total_sum f g xs)
 
 -- What does not pass counts nothing.
-pub total_kept : {X : Type 0} (f : X → ℕ) (p : X → Bool) (xs : List X) → All (λ x. p x ≡ false → f x ≡ 0) xs → total f (filter p xs) ≡ total f xs
+pub total_kept : {X : Type 0} (f : X → ℕ) (p : X → Bool) (xs : List X) → AllByRecursion (λ x. p x ≡ false → f x ≡ 0) xs → total f (filter p xs) ≡ total f xs
 total_kept f p [] h = refl
 total_kept f p (x ∷ xs) (h, hs) = go (p x) refl (total_kept f p xs hs)
   where
@@ -65,7 +65,7 @@ module _ (f : Reservation → ℕ) (n : ℕ) (r : Reservation) where
   total_found xs h = omega (arith, total_without xs h)
 
 -- What holds of anything holds of each.
-pub all_anyway : {X : Type 0} (P : X → Type 0) → ((x : X) → P x) → (xs : List X) → All P xs
+pub all_anyway : {X : Type 0} (P : X → Type 0) → ((x : X) → P x) → (xs : List X) → AllByRecursion P xs
 all_anyway P h [] = tt
 all_anyway P h (x ∷ xs) = (h x, all_anyway P h xs)
 
