@@ -1,6 +1,5 @@
 use Rattle.std.proofs.Common.{◌≡◌, ℕ, ◌+◌, ◌<◌, true, T, List, [], ◌∷◌, ◌++◌, map, length, get_or, take, is_ok, IfOk, Ok, Err, Result, sym, ap, ◌∙◌, subst, arith, take_all}
 use Rattle.std.proofs.lemmas.List.{map_more}
-use Rattle.std.specs.declared.fmt.Error.{Error}
 use Rattle.report.specs.declared.line.Line.{Line}
 use Rattle.report.specs.Lines.{line_text}
 use Rattle.wazrelin.specs.Texts.{text_of}
@@ -8,7 +7,7 @@ use Rattle.wazrelin.proofs.Plain.{plain_text, text_more}
 use Rattle.wazrelin.proofs.text.text_of.Goals as goal
 
 -- The line at i was written after those before it.
-wrote : (lines : List Line) (i : ℕ) (d : Line) {old new : List ℕ} (r : Result (Unit {0}) Error) → i < length lines → old ≡ text_of (map line_text (take i lines)) → is_ok r ≡ true → IfOk r (λ _. new ≡ old ++ (line_text (get_or lines i d) ++ (10 ∷ []))) → new ≡ text_of (map line_text (take (i + 1) lines))
+wrote : {E : Type 0} (lines : List Line) (i : ℕ) (d : Line) {old new : List ℕ} (r : Result (Unit {0}) E) → i < length lines → old ≡ text_of (map line_text (take i lines)) → is_ok r ≡ true → IfOk r (λ _. new ≡ old ++ (line_text (get_or lines i d) ++ (10 ∷ []))) → new ≡ text_of (map line_text (take (i + 1) lines))
 wrote lines i d (Ok x) h e ok p =
     let more = map_more line_text lines i d h in
     let text = text_more (map line_text (take i lines)) (line_text (get_or lines i d)) in
