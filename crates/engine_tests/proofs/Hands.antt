@@ -1,5 +1,5 @@
 -- What the calls make of the round in hand.
-use Rattle.std.proofs.Common.{◌≡◌, ℕ, true, false, not, ◌&&◌, eqb, Some, None, Option, sym, refl, ap, ◌∙◌, arith}
+use Rattle.std.proofs.Common.{◌≡◌, ℕ, true, false, not, eqb, Some, None, Option, sym, refl, ap, ◌∙◌, arith}
 use Rattle.std.proofs.lemmas.Bool.{both_ways, not-true, and_parts, and_from, eqb-true, eq-eqb}
 use Rattle.terms.specs.declared.refusals.Refusal.{Refusal}
 use Rattle.rules.specs.declared.types.Call.{Call}
@@ -11,7 +11,7 @@ use Rattle.rules.specs.System.{System}
 use Rattle.rules.specs.Replay.{state_after, answer_of, next, reply}
 use Rattle.rules.proofs.Steps.{Step, settles, by_step}
 use Rattle.engine.specs.declared.answers.Round.{Round}
-use Rattle.engine.specs.Shown.{Same, Performed}
+use Rattle.engine.specs.Shown.{Performed}
 use Rattle.engine.specs.Along.{InHand}
 use Rattle.engine.proofs.Calling.{Calm, calm_hand, deal_answered}
 use Rattle.engine.proofs.Rounds.{deal_out, settle_done}

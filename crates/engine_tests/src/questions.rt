@@ -104,7 +104,7 @@ const AT_WORK: [(&[Row], [Core; 2]); 4] = [
 fn cores_at_work(rt: HostRuntime) -> Result<(), Fail> {
     let mut trial = Trial::new(Catalogue, BestFit, &[1000, 150], 3)?;
     for (rows, cores) in AT_WORK {
-        trial.play(rows)?;
+        trial.play(&rt, rows)?;
         shows(&rt, trial.engine(), &cores)?;
     }
     Ok(())
@@ -143,12 +143,15 @@ fn lists(rt: &impl Abort, engine: &Engine<Catalogue, BestFit>) -> Result<(), Fai
 #[test]
 fn reservations_at_work(rt: HostRuntime) -> Result<(), Fail> {
     let mut trial = Trial::new(Catalogue, BestFit, &[1000], 3)?;
-    trial.play(&[
-        (3, Admit(4, 20), Placed(1, 0)),
-        (3, Admit(25, 200), Placed(2, 0)),
-        (3, Leave(1), Free),
-        (3, Wake(2), Awake(State::Ready, 203)),
-        (4, Wake(2), Refused(Refusal::NotResting)),
-    ])?;
+    trial.play(
+        &rt,
+        &[
+            (3, Admit(4, 20), Placed(1, 0)),
+            (3, Admit(25, 200), Placed(2, 0)),
+            (3, Leave(1), Free),
+            (3, Wake(2), Awake(State::Ready, 203)),
+            (4, Wake(2), Refused(Refusal::NotResting)),
+        ],
+    )?;
     lists(&rt, trial.engine())
 }

@@ -27,12 +27,12 @@ impl Log {
     }
 
     // It was told these rows and no others.
-    fn holds(&self, rows: &[Row]) -> Result<(), Fail> {
-        assert_eq!(self.calls, rows.len());
+    fn holds(&self, rt: &impl Abort, rows: &[Row]) -> Result<(), Fail> {
+        assert_eq!(rt; self.calls, rows.len());
         let mut place = 0;
         for &row in rows {
-            assert!(place < 12);
-            assert_eq!(self.told[place], Some(row));
+            assert!(rt; place < 12);
+            assert_eq!(rt; self.told[place], Some(row));
             place += 1;
         }
         Ok(())
@@ -106,16 +106,16 @@ fn runs(
 ) -> Result<(), Fail> {
     let mut log = Log::new();
     let (mut trial, complete) = Trial::after(Rounded, FirstFit, &[1000], start, steps, &mut log)?;
-    log.holds(told)?;
+    log.holds(rt, told)?;
     assert_eq!(rt; (log.deals, log.named, complete), ended);
-    trial.play(afterwards)
+    trial.play(rt, afterwards)
 }
 
 #[test]
-fn a_script_by_calls() -> Result<(), Fail> {
+fn a_script_by_calls(rt: HostRuntime) -> Result<(), Fail> {
     let mut trial = Trial::new(Rounded, FirstFit, &[1000], 5)?;
-    trial.play(&SCRIPT)?;
-    trial.play(&LAST)
+    trial.play(&rt, &SCRIPT)?;
+    trial.play(&rt, &LAST)
 }
 
 #[test]

@@ -10,7 +10,7 @@ use Rattle.rules.specs.declared.types.Answer.{Answer}
 use Rattle.rules.specs.Setup.{Setup, setup_of}
 use Rattle.rules.specs.System.{System, fresh}
 use Rattle.rules.specs.Parts.{bound, live_parts, departed_parts}
-use Rattle.rules.specs.Server.{keeps, woken, lapse, is_behind}
+use Rattle.rules.specs.Server.{woken, lapse, is_behind}
 use Rattle.rules.specs.Replay.{next, reply, replay}
 
 -- A reservation of these terms with so much budget left, this deadline and this state.

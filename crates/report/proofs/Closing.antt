@@ -1,5 +1,5 @@
 -- Lines written one after another, and the closing lines of states that are the same.
-use Rattle.std.proofs.Common.{◌≡◌, ℕ, suc, ◌+◌, Bool, true, false, List, [], ◌∷◌, ◌++◌, map, vec_items, sym, refl, ap, ◌∙◌, append_assoc, append-nil, arith}
+use Rattle.std.proofs.Common.{◌≡◌, ℕ, suc, ◌+◌, false, List, [], ◌∷◌, ◌++◌, map, vec_items, sym, refl, ap, ◌∙◌, append_assoc, append-nil, arith}
 use Rattle.rules.specs.System.{System}
 use Rattle.rules.specs.Parts.{live_parts, departed_parts}
 use Rattle.ledger.proofs.Same.{same_departed}

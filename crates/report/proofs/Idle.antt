@@ -1,5 +1,5 @@
 -- A plan's steps leave no round out: its calls neither deal nor settle, and its rounds are settled.
-use Rattle.std.proofs.Common.{◌≡◌, ℕ, suc, Bool, true, false, cond, List, [], ◌∷◌, ◌++◌, map, length, Some, None, Option, sym, refl, ap, ◌∙◌, ⊎_elim, append_assoc, append-nil}
+use Rattle.std.proofs.Common.{◌≡◌, ℕ, suc, Bool, true, false, cond, List, [], ◌∷◌, ◌++◌, map, length, Option, sym, refl, ap, ◌∙◌, ⊎_elim, append_assoc, append-nil}
 use Rattle.std.proofs.lemmas.Bool.{cases_eq}
 use Rattle.rules.specs.declared.types.Call.{Call}
 use Rattle.rules.specs.declared.types.Call.TheVariants.{Admit, Wake, Rest, Leave, Move, Deal, Settle}
@@ -9,12 +9,12 @@ use Rattle.rules.specs.Setup.{Setup, last_tick}
 use Rattle.rules.specs.System.{System, fresh}
 use Rattle.rules.specs.Calls.{Outcome, answered, with_round, deal}
 use Rattle.rules.specs.Dealing.{picks}
-use Rattle.rules.specs.Replay.{state_after, is_accepted, next, accepts, after, replay}
+use Rattle.rules.specs.Replay.{state_after, is_accepted, next, after, replay}
 use Rattle.rules.proofs.Steps.{Step as Accepted, admits, wakes, rests, leaves, moves, deals, settles, by_step}
 use Rattle.rules.proofs.Counts.{after_append}
 use Rattle.engine.proofs.Rounds.{deal_end, deal_done, settle_done}
 use Rattle.engine.specs.declared.runs.Step.{Step}
-use Rattle.engine.specs.Driving.{Course, before, stopped, round_on, rounds, own_call, course}
+use Rattle.engine.specs.Driving.{before, stopped, round_on, rounds, own_call, course}
 use Rattle.plan.specs.declared.event.Kind.{Kind}
 use Rattle.plan.specs.Records.{Row}
 use Rattle.report.specs.Reports.{call_of, step_of, OfEvents}

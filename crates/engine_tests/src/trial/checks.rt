@@ -3,6 +3,7 @@ use super::Trial;
 use measure::Measure;
 use policy::Policy;
 use rules::{Answer, Call, Reservation};
+use std::process::Abort;
 use std::test::*;
 
 // A tick, the call made then, and what it answers.
@@ -34,33 +35,39 @@ impl<M: Measure + Drop, P: Policy + Drop> Trial<M, P> {
     }
 
     // Lets ticks pass.
-    pub fn pass(&mut self, ticks: u32) -> Result<(), Fail> {
+    pub fn pass(&mut self, rt: &impl Abort, ticks: u32) -> Result<(), Fail> {
         for _ in 0..ticks {
             let tick = self.engine().clock();
             let next = tick.saturating_add(1);
             let told = (self.perform(Call::Deal), self.perform(Call::Settle(tick)));
-            assert_eq!(told, (Answer::Dealt(tick), Answer::Clock(next)));
+            assert_eq!(rt; told, (Answer::Dealt(tick), Answer::Clock(next)));
         }
         Ok(())
     }
 
     // Makes the call and holds the clock and the answer to those given; a refusal changes nothing.
-    fn answers(&mut self, tick: u32, call: Call, answer: Answer) -> Result<(), Fail> {
+    fn answers(
+        &mut self,
+        rt: &impl Abort,
+        tick: u32,
+        call: Call,
+        answer: Answer,
+    ) -> Result<(), Fail> {
         let before = self.picture();
         let told = self.perform(call);
-        assert_eq!((before.clock, call, told), (tick, call, answer));
+        assert_eq!(rt; (before.clock, call, told), (tick, call, answer));
         if let Answer::Refused(_) = told {
-            assert_eq!(self.picture(), before);
+            assert_eq!(rt; self.picture(), before);
             return Ok(());
         }
         Ok(())
     }
 
     // The calls of the rows, each once its tick has come.
-    pub fn play(&mut self, rows: &[Row]) -> Result<(), Fail> {
+    pub fn play(&mut self, rt: &impl Abort, rows: &[Row]) -> Result<(), Fail> {
         for &(tick, call, answer) in rows {
-            self.pass(tick.saturating_sub(self.engine().clock()))?;
-            self.answers(tick, call, answer)?;
+            self.pass(rt, tick.saturating_sub(self.engine().clock()))?;
+            self.answers(rt, tick, call, answer)?;
         }
         Ok(())
     }

@@ -1,4 +1,4 @@
-use Rattle.std.proofs.Common.{◌≡◌, ◌++◌, map, length, ap, ◌∙◌}
+use Rattle.std.proofs.Common.{◌++◌, map, length, ap, ◌∙◌}
 use Rattle.engine.specs.Engines.{shown}
 use Rattle.engine.specs.View.{figures_of}
 use Rattle.report.specs.Reports.{end_lines, core_lines, ran_line}

@@ -1,10 +1,9 @@
-use Rattle.std.proofs.Common.{◌≡◌, ◌-◌, ◌≤◌, false, [], map, length, take, vec_items, sym, refl, ap, ◌∙◌, subst}
+use Rattle.std.proofs.Common.{◌-◌, ◌≤◌, [], map, length, take, sym, ap, ◌∙◌, subst}
 use Rattle.rules.specs.Setup.{setup_of}
 use Rattle.rules.specs.System.{fresh}
 use Rattle.engine.specs.Driving.{course}
 use Rattle.engine.specs.Engines.{shown}
 use Rattle.engine.proofs.Inners.{made_few}
-use Rattle.report.specs.Reports.{figures_of}
 use Rattle.report.specs.Lines.{line_text}
 use Rattle.report.specs.Written.{text_of}
 use Rattle.report.proofs.Idle.{steps_idle}

@@ -1,4 +1,4 @@
-use Rattle.std.proofs.Common.{◌≡◌, ◌<◌, [], ◌∷◌, ◌++◌, map, length, get_or, take, sym, ap, ◌∙◌, subst, arith, take_all}
+use Rattle.std.proofs.Common.{◌<◌, map, length, sym, subst, arith, take_all}
 use Rattle.std.proofs.lemmas.List.{map_more}
 use Rattle.engine.specs.Engines.{shown}
 use Rattle.report.specs.Reports.{ran_line}
