@@ -24,7 +24,7 @@ fn main() {
 fn archives() -> Result<[PathBuf; 2], String> {
     let folder = match env::var_os("WAZRELIN_LIB") {
         Some(folder) => PathBuf::from(folder),
-        None => Path::new(env!("CARGO_MANIFEST_DIR")).join("../target/staticlib"),
+        None => Path::new(env!("CARGO_MANIFEST_DIR")).join("../crates/wazrelin/out"),
     };
     let library = present(folder.join("libwazrelin.a"))?;
     let support = env::var_os("WAZRELIN_C").ok_or("WAZRELIN_C is not set")?;
