@@ -1,5 +1,5 @@
 -- The seven calls: the checks in their order, each with its refusal, and then the answer and the next state.
-use Rattle.std.specs.Prelude.{ℕ, ◌+◌, Bool, true, false, cond, not, ◌&&◌, ◌||◌, ltb, List, [], ◌∷◌, ◌++◌, map, length, Some, None, Option, ◌==◌, nat_le, nat_lt}
+use Rattle.std.specs.Prelude.{ℕ, ◌+◌, Bool, true, false, cond, not, ◌&&◌, ◌||◌, List, [], ◌∷◌, ◌++◌, map, length, Some, None, Option, ◌==◌, nat_le, nat_lt}
 use Rattle.std.specs.List.{filter}
 use Rattle.terms.specs.declared.refusals.Refusal.{Refusal}
 use Rattle.terms.specs.declared.refusals.Refusal.TheVariants.{Limits, NotTaken, NoCore, RoundOut, WrongRound, ClockEnd, NoReservation, TooMany, NumbersGone, NoRoom, NotResting, Resting as AlreadyResting, SameCore, Behind, LedgerFull}
@@ -130,7 +130,7 @@ abbrev pub ticked : System → System
 ticked σ = record {
   clock = σ.clock + 1;
   live = map (λ r. refilled (σ.clock + 1) (charged_if σ.names r)) σ.live;
-  ledger = filter (λ e. ltb (σ.clock + 1) e.lapse) σ.ledger;
+  ledger = filter (λ e. nat_lt (σ.clock + 1) e.lapse) σ.ledger;
   given = σ.given;
   out = false;
   names = [];

@@ -1,5 +1,5 @@
 // The table's plain figures and their upkeep: what a call asks of them, it leaves.
-ghost use Rattle.std.specs.Prelude.{◌≡◌, ◌+◌, ◌-◌, ◌<◌, ◌≤◌, true, false, [], ◌∷◌, ◌++◌, map, get_or, replicate, None, MatchOption, slice_index_or, slice_set};
+ghost use Rattle.std.specs.Prelude.{◌≡◌, ◌+◌, ◌-◌, ◌<◌, ◌≤◌, true, false, [], ◌∷◌, ◌++◌, map, replicate, None, MatchOption, slice_index_or, slice_set};
 ghost use Rattle.std.specs.List.{remove};
 ghost use Rattle.std.specs.Option.{option_map};
 ghost use Rattle.rules.specs.declared.types.Reservation.{Reservation};
@@ -156,8 +156,8 @@ impl Inner {
     fn charge_ready(&mut self, place: usize)
         requires sound { Sound self.old }
         requires within { place < self.old.count }
-        requires ready { (d : Reservation) → is_ready (get_or self.old.rows place d).state ≡ true }
-        requires more { (d : Reservation) → 1 < (get_or self.old.rows place d).left }
+        requires ready { (d : Reservation) → is_ready (slice_index_or self.old.rows place d).state ≡ true }
+        requires more { (d : Reservation) → 1 < (slice_index_or self.old.rows place d).left }
         requires fits { (d : Reservation) → fit self.old.clock (charged (slice_index_or self.old.rows place d)) ≡ true }
         ensures sound { Sound self.new }
         ensures clock { self.new.clock ≡ self.old.clock }
