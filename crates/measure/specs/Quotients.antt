@@ -1,11 +1,12 @@
 -- The parts of the rounded measure cover the budget's share of the whole, and are 1 to the whole.
 use Rattle.std.specs.Prelude.{◌≡◌, ℕ, ◌+◌, ◌-◌, ◌*◌, ◌<◌, ◌≤◌, true}
 use Rattle.std.proofs.Math.Nat.{lt-div-mul-add}
-use Rattle.std.proofs.Common.{arith}
+use Rattle.std.proofs.Common.{subst, arith, lit≤}
 use Rattle.std.proofs.lemmas.Nat.{div_below, le-div}
 use Rattle.terms.specs.Limits.{in_limits}
 use Rattle.terms.proofs.Limits.{budget_low, budget_high}
-use Rattle.measure.specs.Meanings.{rounded_whole, quotient_up}
+use Rattle.measure.specs.Laws.{Lawful}
+use Rattle.measure.specs.Meanings.{rounded_whole, quotient_up, rounded}
 
 module _ (budget period : ℕ) (within : in_limits budget period ≡ true) where
   some : 0 < period
@@ -25,3 +26,19 @@ module _ (budget period : ℕ) (within : in_limits budget period ≡ true) where
       div_below (budget * rounded_whole + (period - 1)) period (rounded_whole + 1) some
       (omega (arith, some, budget_high budget period within))
       in omega arith
+
+-- The rounded measure's law.
+pub rounded_lawful : Lawful rounded_whole rounded
+rounded_lawful = record {
+  whole_low = lit≤ tt;
+  whole_high = lit≤ tt;
+  covers = λ budget period parts within taken.
+      let is : quotient_up (budget * rounded_whole) period ≡ parts = cc in
+      subst (λ (n : ℕ). budget * rounded_whole ≤ n * period) is (up_covers budget period within);
+  low = λ budget period parts within taken.
+      let is : quotient_up (budget * rounded_whole) period ≡ parts = cc in
+      omega (arith, up_low budget period within);
+  high = λ budget period parts within taken.
+      let is : quotient_up (budget * rounded_whole) period ≡ parts = cc in
+      omega (arith, up_high budget period within);
+}

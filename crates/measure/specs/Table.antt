@@ -1,7 +1,8 @@
 -- The law of a catalogue from one test over all its rows.
 use Rattle.std.specs.Prelude.{◌≡◌, ℕ, ◌*◌, ◌≤◌, Bool, true, ◌&&◌, List, [], ◌∷◌, Some, nat_le, refl}
-use Rattle.std.proofs.Common.{arith}
+use Rattle.std.proofs.Common.{arith, lit≤}
 use Rattle.std.proofs.lemmas.Bool.Decides.{nat_tests}
+use Rattle.measure.specs.Laws.{Lawful}
 use Rattle.measure.specs.Meanings.{catalogue_whole, rows, priced, catalogue}
 
 -- the parts cover the budget's share of the whole, and are 1 to the whole
@@ -40,3 +41,13 @@ module _ (budget period parts : ℕ) (taken : catalogue budget period ≡ Some p
 
   pub row_high : parts ≤ catalogue_whole
   row_high = let fact = row_fair in grind (arith, nat_tests)
+
+-- The catalogue's law.
+pub catalogue_lawful : Lawful catalogue_whole catalogue
+catalogue_lawful = record {
+  whole_low = lit≤ tt;
+  whole_high = lit≤ tt;
+  covers = λ budget period parts within. row_covers budget period parts;
+  low = λ budget period parts within. row_low budget period parts;
+  high = λ budget period parts within. row_high budget period parts;
+}

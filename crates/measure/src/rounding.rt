@@ -1,8 +1,7 @@
 // The rounded measure: the budget's share of the whole, rounded up.
-ghost use Rattle.std.specs.Prelude.{◌≡◌, ℕ, ◌+◌, ◌*◌, ◌^◌, ◌<◌, ◌≤◌};
-ghost use Rattle.std.proofs.Common.{subst, arith, lit≤};
+ghost use Rattle.std.specs.Prelude.{◌≡◌, ◌+◌, ◌^◌, ◌<◌, ◌≤◌};
 ghost use Rattle.measure.specs.Meanings.{rounded_whole, quotient_up, rounded};
-ghost use Rattle.measure.specs.Quotients.{up_covers, up_low, up_high};
+ghost use Rattle.measure.specs.Quotients.{rounded_lawful};
 
 use crate::Measure;
 use terms::Terms;
@@ -15,20 +14,7 @@ impl Measure for Rounded {
 
     ghost price = { λ _. rounded };
 
-    ghost lawful = { λ x.
-        record {
-          whole_low = lit≤ tt;
-          whole_high = lit≤ tt;
-          covers = λ budget period parts within taken.
-              let is : quotient_up (budget * rounded_whole) period ≡ parts = cc in
-              subst (λ (n : ℕ). budget * rounded_whole ≤ n * period) is (up_covers budget period within);
-          low = λ budget period parts within taken.
-              let is : quotient_up (budget * rounded_whole) period ≡ parts = cc in
-              omega (arith, up_low budget period within);
-          high = λ budget period parts within taken.
-              let is : quotient_up (budget * rounded_whole) period ≡ parts = cc in
-              omega (arith, up_high budget period within);
-        } };
+    ghost lawful = { λ _. rounded_lawful };
 
     fn whole(&self) -> u32 {
         1_048_576

@@ -1,8 +1,7 @@
 // The catalogue: a measure that takes the terms of its rows.
 ghost use Rattle.std.specs.Prelude.{◌≡◌};
 ghost use Rattle.measure.specs.Meanings.{catalogue_whole, catalogue, priced};
-ghost use Rattle.std.proofs.Common.{lit≤};
-ghost use Rattle.measure.specs.Table.{row_covers, row_low, row_high};
+ghost use Rattle.measure.specs.Table.{catalogue_lawful};
 
 use crate::Measure;
 use terms::Terms;
@@ -31,14 +30,7 @@ impl Measure for Catalogue {
 
     ghost price = { λ _. catalogue };
 
-    ghost lawful = { λ x.
-        record {
-          whole_low = lit≤ tt;
-          whole_high = lit≤ tt;
-          covers = λ budget period parts within. row_covers budget period parts;
-          low = λ budget period parts within. row_low budget period parts;
-          high = λ budget period parts within. row_high budget period parts;
-        } };
+    ghost lawful = { λ _. catalogue_lawful };
 
     fn whole(&self) -> u32 {
         1_000
