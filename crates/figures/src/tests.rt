@@ -11,14 +11,6 @@ fn figures_are_shown(rt: HostRuntime) {
     assert!(rt; worked());
 }
 
-// What the making of terms answers: 0, or the number of the refusal.
-fn refusal(budget: u32, period: u32) -> u32 {
-    match Terms::new(budget, period) {
-        Ok(_) => 0,
-        Err(refused) => refused.number(),
-    }
-}
-
 #[test]
 fn terms_keep_to_their_limits(rt: HostRuntime) -> Result<(), Fail> {
     for (budget, period) in [
@@ -29,7 +21,7 @@ fn terms_keep_to_their_limits(rt: HostRuntime) -> Result<(), Fail> {
         (1, 0),
         (u32::MAX, u32::MAX),
     ] {
-        assert_eq!(rt; refusal(budget, period), 4);
+        assert_eq!(rt; Terms::new(budget, period).map_err(Refusal::number), Err(4));
         assert_eq!(rt; parts(&Rounded, budget, period), None);
     }
     for (budget, period) in [(1_000_000, 1_000_000), (1, 1), (1, 1_000_000), (5, 5)] {
