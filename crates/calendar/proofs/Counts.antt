@@ -1,6 +1,6 @@
 -- What a queue keeps of its list: any sum or count, what is held, and the copies of each element, which fix the queue.
 -- Assumes nothing.
-use Rattle.std.proofs.Common.{◌≡◌, ℕ, zero, suc, ◌+◌, ◌<◌, Bool, true, false, cond, ◌||◌, List, [], ◌∷◌, ◌++◌, length, get_or, sum_by, sym, refl, ap, ◌∙◌, subst, ⊎_elim, not-suc-le-zero, arith}
+use Rattle.std.proofs.Common.{◌≡◌, ℕ, zero, suc, ◌+◌, ◌<◌, Bool, true, false, cond, ◌||◌, List, [], ◌∷◌, ◌++◌, length, get_or, filter, sum_by, sym, refl, ap, ◌∙◌, subst, ⊎_elim, not-suc-le-zero, arith}
 use Rattle.std.specs.List.{AllByRecursion}
 use Rattle.std.proofs.lemmas.List.Sums.{sum_by-cons}
 use Rattle.std.proofs.lemmas.Bool.{cond_both, cases_Bool, true≢false}
@@ -47,6 +47,11 @@ module _ {X : Type 0} (before : X → X → Bool) where
   pub copies_push : (x : X) (xs : List X) (y : X) → copies before x (xs ++ y ∷ []) ≡ copies before x xs + cond (alike before x y) 1 0
   copies_push x [] y = omega arith
   copies_push x (z ∷ xs) y = omega (arith, copies_push x xs y)
+
+  -- the copies are those that a filter keeps
+  pub copies_filter : (x : X) (xs : List X) → length (filter (alike before x) xs) ≡ copies before x xs
+  copies_filter x [] = refl
+  copies_filter x (y ∷ ys) = let h = copies_filter x ys in grind arith
 
   -- one that is not held is not taken out
   pub without_none : (x : X) (xs : List X) → holds before x xs ≡ false → without before x xs ≡ xs
