@@ -3,4 +3,5 @@ mod Bounds
 mod Named
 mod Complete
 mod Steps
+pub mod Limits
 mod Gathered

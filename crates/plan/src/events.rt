@@ -2,6 +2,7 @@
 ghost use Rattle.std.specs.Prelude.{◌≡◌, false, drop, IfOk, IsTrue, MatchOption, is_none};
 ghost use Rattle.std.specs.Option.{option_map};
 ghost use Rattle.fault.specs.Faults.{told, shown, plan_told};
+ghost use Rattle.plan.specs.Headers.{IsWithinLimits};
 ghost use Rattle.plan.specs.Records.{row_of};
 ghost use Rattle.plan.specs.Plans.{reader_of, unread, is_end, step_of, next_spot, Fresh, open_of, next_of, after_of};
 
@@ -22,6 +23,7 @@ pub struct Events<'a> {
 pub fn read_header<'a>(bytes: &'a [u8]) -> Result<(Header, Events<'a>), PlanFault>
     ensures answer { shown (λ p. (p.0, reader_of p.1)) (told plan_told result) ≡ open_of bytes.now }
     ensures fresh { IfOk result (λ p. Fresh (reader_of p.1)) }
+    ensures limits { IfOk result (λ p. IsWithinLimits p.0) }
 {
     if bytes.len() > 65_536 {
         return Err(PlanFault::TooLong);

@@ -1,6 +1,7 @@
 // A whole plan, read before anything is done with it.
-ghost use Rattle.std.specs.Prelude.{◌≡◌, suc, Some, map};
+ghost use Rattle.std.specs.Prelude.{◌≡◌, suc, Some, map, IfOk};
 ghost use Rattle.plan.specs.declared.reading.PlanError.TheVariants.{Fault, Memory};
+ghost use Rattle.plan.specs.Headers.{IsWithinLimits};
 ghost use Rattle.plan.specs.Records.{row_of};
 ghost use Rattle.plan.specs.Plans.{reader_of, Fresh, events_of, first_spot, plan_of, contents_of, error_line, Answers};
 
@@ -69,7 +70,8 @@ fn gather<'a>(heap: Global, mut reader: Events<'a>) -> Result<Vec<Event<'a>>, Pl
 
 // Reads the whole plan: its header, then all its events.
 pub fn read_plan<'a>(heap: Global, bytes: &'a [u8]) -> Result<Plan<'a>, PlanError>
-    ensures { Answers contents_of result (plan_of bytes.now) }
+    ensures answer { Answers contents_of result (plan_of bytes.now) }
+    ensures limits { IfOk result (λ p. IsWithinLimits p.header) }
 {
     let (header, reader) = read_header(bytes)?;
     let events = gather(heap, reader)?;
