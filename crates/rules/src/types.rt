@@ -2,15 +2,16 @@
 use terms::Refusal;
 
 // What a reservation wants: a ready one has budget left, a spent one has none, a resting one wants no ticks.
-#[derive(Clone, Copy, Debug, PartialEq, Eq)]
+#[derive(Clone, Copy, Debug, Default, PartialEq, Eq)]
 pub enum State {
     Ready,
     Spent,
+    #[default]
     Resting,
 }
 
 // A live reservation: its terms, its parts as measured on admission, its core, the budget left, the deadline and the ticks run.
-#[derive(Clone, Copy, Debug, PartialEq, Eq)]
+#[derive(Clone, Copy, Debug, Default, PartialEq, Eq)]
 pub struct Reservation {
     pub number: u32,
     pub budget: u32,

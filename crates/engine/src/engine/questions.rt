@@ -75,6 +75,13 @@ impl<M: Measure, P: Policy> Engine<M, P> {
         self.inner.live_count()
     }
 
+    // The records of the live reservations in number order.
+    pub fn live(&self) -> &[Reservation]
+        ensures { result.now ≡ (shown self.now).live }
+    {
+        self.inner.live()
+    }
+
     // The record of the live reservation at this place in number order.
     pub fn live_at(&self, index: usize) -> Option<Reservation>
         ensures { result ≡ slice_get (shown self.now).live index }

@@ -79,6 +79,12 @@ impl Inner {
         }
     }
 
+    pub fn live(&self) -> &[Reservation]
+        ensures { result.now ≡ (view self.now).live }
+    {
+        self.table.live()
+    }
+
     pub fn live_at(&self, index: usize) -> Option<Reservation>
         ensures { result ≡ slice_get (view self.now).live index }
     {
