@@ -1,5 +1,5 @@
 -- The engine's calls are those of its figures.
-use Rattle.std.proofs.Common.{◌≡◌, ℕ, List, Option, sym, refl, ap, subst}
+use Rattle.std.proofs.Common.{◌≡◌, ℕ, List, IsErrAnd, Option, Result, sym, refl, ap, subst}
 use Rattle.terms.specs.declared.refusals.Refusal.{Refusal}
 use Rattle.measure.specs.Laws.{Lawful as LawfulMeasure}
 use Rattle.policy.specs.Laws.{Lawful as LawfulPolicy}
@@ -13,10 +13,11 @@ use Rattle.rules.proofs.Shares.{shares}
 use Rattle.engine.specs.declared.inner.Inner.{Inner}
 use Rattle.engine.specs.declared.engine.Engine.{Engine}
 use Rattle.engine.specs.Shown.{Performed}
+use Rattle.engine.specs.Answers.{answer_by}
 use Rattle.engine.specs.View.{view, figures_of, bare, Follows}
 use Rattle.engine.specs.Engines.{setup, shown}
 use Rattle.engine.proofs.Alike.{performed}
-use Rattle.engine.proofs.Following.{follows_refused}
+use Rattle.engine.proofs.Following.{follows_refused, follows_handed}
 use Rattle.engine.proofs.Inners.{was_made}
 
 -- A move asks a setup for its whole and its figures,
@@ -44,6 +45,11 @@ module _ {M P : Type 0} (whole : M → ℕ) (price : M → ℕ → ℕ → Optio
   pub refuses : LawfulMeasure (whole e.measure) (price e.measure) → LawfulPolicy (choice e.policy) → (c : Call) (n : Refusal) → answer (setup whole price choice e) (shown e) c ≡ refused n → Performed (setup whole price choice e) (shown e) c (Refused n) (shown e)
   refuses measured placed c n why =
       performs measured placed c (answer (setup whole price choice e) (shown e) c) (Refused n) e.inner refl (follows_refused e.inner _ n why)
+
+  -- A refusal that `?` hands on.
+  pub refuses_handed : {X : Type 0} (f : X → Answer) → LawfulMeasure (whole e.measure) (price e.measure) → LawfulPolicy (choice e.policy) → (c : Call) (n : Refusal) (r : Result X Refusal) → IsErrAnd r (λ m. m ≡ n) → answer (setup whole price choice e) (shown e) c ≡ refused n → Performed (setup whole price choice e) (shown e) c (answer_by f r) (shown e)
+  refuses_handed f measured placed c n r handed why =
+      performs measured placed c (answer (setup whole price choice e) (shown e) c) (answer_by f r) e.inner refl (follows_handed f e.inner e.inner _ n r handed why refl)
 
   -- Figures of the same cores and start are those of the same setup.
   pub same_setup : (i : Inner) → figures_of i ≡ figures_of e.inner → i.start ≡ e.inner.start → setup whole price choice (record { measure = e.measure; policy = e.policy; inner = i }) ≡ setup whole price choice e

@@ -45,8 +45,7 @@ fn departed(res: Result<Departure, Refusal>) -> Answer
     ensures { result ≡ departed res }
 {
     match res {
-        Ok(Departure::Until(tick)) => Answer::Until(tick),
-        Ok(Departure::Free) => Answer::Free,
+        Ok(departure) => departure.until.map_or(Answer::Free, Answer::Until),
         Err(refusal) => Answer::Refused(refusal),
     }
 }

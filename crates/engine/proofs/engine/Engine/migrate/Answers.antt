@@ -11,7 +11,7 @@ returns g c =
     let e = c.args.self.now in
     let f = c.migrate.ensures.next in
     record {
-      next = performs g.M.Measure.whole g.M.Measure.price g.P.Policy.choice e (g.met.M.Measure.lawful e.measure) (g.met.P.Policy.lawful e.policy) (Move c.args.number c.args.core) _ _ _ (ap (λ w. move (bare w e.inner) (view e.inner) c.args.number c.args.core) c.whole-whole.ensures ∙ move_bare (setup g.M.Measure.whole g.M.Measure.price g.P.Policy.choice e) e.inner c.args.number c.args.core refl) f;
+      next = performs g.M.Measure.whole g.M.Measure.price g.P.Policy.choice e (g.met.M.Measure.lawful e.measure) (g.met.P.Policy.lawful e.policy) (Move c.args.number c.args.core) _ _ _ (ap (λ w. move (bare w e.inner) (view e.inner) c.args.number c.args.core) c.of.ensures ∙ move_bare (setup g.M.Measure.whole g.M.Measure.price g.P.Policy.choice e) e.inner c.args.number c.args.core refl) f;
       made = same_setup g.M.Measure.whole g.M.Measure.price g.P.Policy.choice e c.migrate.new.self f.figures f.start;
       kept = λ refused. same_engine g.M.Measure.whole g.M.Measure.price g.P.Policy.choice e c.migrate.new.self (c.migrate.ensures.kept refused);
     }
