@@ -5,6 +5,7 @@ use Rattle.std.specs.List.{AllByRecursion}
 use Rattle.std.proofs.lemmas.Bool.{eqb-true}
 use Rattle.std.proofs.lemmas.Bool.Decides.{nat_tests}
 use Rattle.std.proofs.ByRecursion.{All-weaker}
+use Rattle.std.proofs.lemmas.Option.{same_Some}
 use Rattle.rules.specs.declared.types.Reservation.{Reservation}
 use Rattle.rules.specs.Lists.{find, change, without}
 
@@ -13,27 +14,21 @@ abbrev pub Above : ℕ → List Reservation → Type 0
 Above k [] = Unit {0}
 Above k (r ∷ rs) = (k < r.number) × Above r.number rs
 
-pub none_some : {X : Type 0} {x : X} → ◌≡◌ {A = Option X} None (Some x) → ⊥
-none_some {x = x} e = let z : ◌≡◌ {A = ℕ} 0 1 = ap (λ o. cond (is_some o) 1 0) e in omega arith
-
-pub some_same : {X : Type 0} {x y : X} → ◌≡◌ {A = Option X} (Some x) (Some y) → x ≡ y
-some_same e = cc
-
 pub found_number : (n : ℕ) (rs : List Reservation) (r : Reservation) → find n rs ≡ Some r → r.number ≡ n
-found_number n [] r h = absurd (none_some h)
+found_number n [] r h = cc
 found_number n (x ∷ xs) r h = let ih = found_number n xs r in grind (arith, nat_tests)
 
 -- What holds of all holds of the one found.
 pub found_all : (P : Reservation → Type 0) (n : ℕ) (rs : List Reservation) (r : Reservation) → AllByRecursion P rs → find n rs ≡ Some r → P r
-found_all P n [] r a h = absurd (none_some h)
+found_all P n [] r a h = cc
 found_all P n (x ∷ xs) r a h = go (eqb x.number n) (found_all P n xs r a.1) h
   where
     go : (t : Bool) → (find n xs ≡ Some r → P r) → cond t (Some x) (find n xs) ≡ Some r → P r
-    go true ih k = subst P (some_same k) a.0
+    go true ih k = subst P (same_Some _ _ k) a.0
     go false ih k = ih k
 
 pub found_above : (k n : ℕ) (rs : List Reservation) (r : Reservation) → Above k rs → find n rs ≡ Some r → k < n
-found_above k n [] r a h = absurd (none_some h)
+found_above k n [] r a h = cc
 found_above k n (x ∷ xs) r a h = let ih = found_above x.number n xs r a.1 in let l = a.0 in grind (arith, nat_tests)
 
 -- Below all the numbers none is found.
@@ -42,7 +37,7 @@ not_found_below k n [] a l = refl
 not_found_below k n (x ∷ xs) a l = let h = a.0 in let ih = not_found_below x.number n xs a.1 (omega arith) in grind (arith, nat_tests)
 
 pub find_change_same : (n : ℕ) (r x : Reservation) (rs : List Reservation) → r.number ≡ n → find n rs ≡ Some x → find n (change n r rs) ≡ Some r
-find_change_same n r x [] e h = absurd (none_some h)
+find_change_same n r x [] e h = cc
 find_change_same n r x (y ∷ ys) e h = let ih = find_change_same n r x ys e in grind (arith, nat_tests)
 
 pub find_change_other : (m n : ℕ) (r : Reservation) (rs : List Reservation) → r.number ≡ n → (m ≡ n → ⊥) → find m (change n r rs) ≡ find m rs

@@ -5,12 +5,14 @@ use Rattle.std.specs.List.{AllByRecursion}
 use Rattle.std.proofs.lemmas.Bool.{both_ways, eqb-true, and_parts, cond_both, cases_lt}
 use Rattle.std.proofs.lemmas.Bool.Decides.{nat_tests}
 use Rattle.std.proofs.ByRecursion.{All-weaker, all_kept_by, kept_by_passes}
+use Rattle.std.proofs.lemmas.Option.{none-some, same_Some}
+use Rattle.std.proofs.Math.Bool.{or-false}
 use Rattle.rules.specs.declared.types.Reservation.{Reservation}
 use Rattle.rules.specs.Lists.{find}
 use Rattle.rules.specs.Server.{is_ready, is_name}
 use Rattle.rules.specs.Dealing.{goes_first, sooner, earliest, is_ready_on, pick, picks_from, picks}
 use Rattle.rules.specs.Share.{is_named}
-use Rattle.rules.proofs.Finding.{Above, none_some, some_same, each_found}
+use Rattle.rules.proofs.Finding.{Above, each_found}
 
 first_self : (r : Reservation) → goes_first r r ≡ true
 first_self r = grind (arith, nat_tests)
@@ -23,8 +25,8 @@ first_through r x y h k = grind (arith, nat_tests)
 
 -- The earliest is one of the list.
 earliest_all : (P : Reservation → Type 0) (xs : List Reservation) (r : Reservation) → AllByRecursion P xs → earliest xs ≡ Some r → P r
-earliest_all P [] r a h = absurd (none_some h)
-earliest_all P (x ∷ xs) r a h = subst P (some_same h) (go (earliest xs) (λ y e. earliest_all P xs y a.1 e))
+earliest_all P [] r a h = cc
+earliest_all P (x ∷ xs) r a h = subst P (same_Some _ _ h) (go (earliest xs) (λ y e. earliest_all P xs y a.1 e))
   where
     go : (o : Option Reservation) → ((y : Reservation) → o ≡ Some y → P y) → P (sooner x o)
     go None f = a.0
@@ -33,11 +35,11 @@ earliest_all P (x ∷ xs) r a h = subst P (some_same h) (go (earliest xs) (λ y 
 -- It goes before each of them.
 earliest_first : (xs : List Reservation) (r : Reservation) → earliest xs ≡ Some r → AllByRecursion (λ x. goes_first r x ≡ true) xs
 earliest_first [] r h = tt
-earliest_first (x ∷ xs) r h = subst (λ (r : Reservation). AllByRecursion (λ y. goes_first r y ≡ true) (x ∷ xs)) (some_same h) (go xs (earliest xs) refl (λ y e. earliest_first xs y e))
+earliest_first (x ∷ xs) r h = subst (λ (r : Reservation). AllByRecursion (λ y. goes_first r y ≡ true) (x ∷ xs)) (same_Some _ _ h) (go xs (earliest xs) refl (λ y e. earliest_first xs y e))
   where
     go : (ys : List Reservation) (o : Option Reservation) → earliest ys ≡ o → ((y : Reservation) → o ≡ Some y → AllByRecursion (λ z. goes_first y z ≡ true) ys) → AllByRecursion (λ z. goes_first (sooner x o) z ≡ true) (x ∷ ys)
     go [] None e f = (first_self x, tt)
-    go (z ∷ zs) None e f = absurd (none_some (sym e))
+    go (z ∷ zs) None e f = cc
     go ys (Some y) e f = by (goes_first x y) refl
       where
         by : (t : Bool) → goes_first x y ≡ t → AllByRecursion (λ z. goes_first (cond t x y) z ≡ true) (x ∷ ys)
@@ -70,7 +72,7 @@ pick_none c rs h = all_passing (is_ready_on c) (λ x. ⊥) rs (go (filter (is_re
   where
     go : (xs : List Reservation) → earliest xs ≡ None → AllByRecursion (λ x. ⊥) xs
     go [] e = tt
-    go (x ∷ xs) e = absurd (none_some (sym e))
+    go (x ∷ xs) e = cc
 
 get_or_picks_from : (c n k : ℕ) (rs : List Reservation) → k < n → get_or (picks_from c n rs) k None ≡ option_map (λ r. r.number) (pick (c + k) rs)
 get_or_picks_from c zero k rs h = absurd (omega arith)
@@ -95,18 +97,14 @@ not_named c zero n rs a h = refl
 not_named c (suc k) n rs a h = go (is_name n (option_map (λ r. r.number) (pick c rs))) refl (not_named (suc c) k n rs a h)
   where
     go : (t : Bool) → is_name n (option_map (λ r. r.number) (pick c rs)) ≡ t → is_named n (picks_from (suc c) k rs) ≡ false → (t || is_named n (picks_from (suc c) k rs)) ≡ false
-    go true e ih = absurd (none_some (sym h ∙ (name_found c n rs a e).1))
+    go true e ih = absurd (none-some _ (sym h ∙ (name_found c n rs a e).1))
     go false e ih = ih
-
-or_false : (t : Bool) → (t || false) ≡ t
-or_false true = refl
-or_false false = refl
 
 module _ (n : ℕ) (x : Reservation) (rs : List Reservation) (a : Above 0 rs) (h : find n rs ≡ Some x) where
   name_core : (c : ℕ) → is_name n (option_map (λ r. r.number) (pick c rs)) ≡ true → x.core ≡ c
   name_core c e =
       let found = name_found c n rs a e in
-      let same : found.0 ≡ x = some_same (sym found.1 ∙ h) in
+      let same : found.0 ≡ x = same_Some _ _ (sym found.1 ∙ h) in
       subst (λ (y : Reservation). y.core ≡ c) same (eqb-true _ _ (and_parts (is_ready found.0.state) (eqb found.0.core c) found.2).1)
 
   named_past : (c k : ℕ) → x.core < c → is_named n (picks_from c k rs) ≡ false
@@ -130,7 +128,7 @@ module _ (n : ℕ) (x : Reservation) (rs : List Reservation) (a : Above 0 rs) (h
       go (inr j) ih =
           let same : c ≡ x.core = omega arith in
           let past = named_past (suc c) k (omega arith) in
-          ap (λ (t : Bool). is_name n (option_map (λ r. r.number) (pick c rs)) || t) past ∙ or_false (is_name n (option_map (λ r. r.number) (pick c rs))) ∙ ap (λ (d : ℕ). is_name n (option_map (λ r. r.number) (pick d rs))) same
+          ap (λ (t : Bool). is_name n (option_map (λ r. r.number) (pick c rs)) || t) past ∙ or-false (is_name n (option_map (λ r. r.number) (pick c rs))) ∙ ap (λ (d : ℕ). is_name n (option_map (λ r. r.number) (pick d rs))) same
 
   -- A live reservation is named exactly where its core's name is its number.
   pub named_on_core : (k : ℕ) → x.core < k → is_named n (picks k rs) ≡ is_name n (get_or (picks k rs) x.core None)
@@ -140,5 +138,5 @@ module _ (n : ℕ) (x : Reservation) (rs : List Reservation) (a : Above 0 rs) (h
   pub name_ready : (k : ℕ) → x.core < k → is_name n (get_or (picks k rs) x.core None) ≡ true → is_ready x.state ≡ true
   name_ready k l e =
       let found = name_found x.core n rs a (ap (is_name n) (sym (get_or_picks k x.core rs l)) ∙ e) in
-      let same : found.0 ≡ x = some_same (sym found.1 ∙ h) in
+      let same : found.0 ≡ x = same_Some _ _ (sym found.1 ∙ h) in
       subst (λ (y : Reservation). is_ready y.state ≡ true) same (and_parts (is_ready found.0.state) (eqb found.0.core x.core) found.2).0

@@ -1,6 +1,7 @@
 -- Sums over a list: of one element more, one changed, one gone, some kept, and of two sums element by element.
 use Rattle.std.proofs.Common.{◌≡◌, ℕ, ◌+◌, ◌≤◌, Bool, true, false, cond, eqb, List, [], ◌∷◌, ◌++◌, map, Some, None, Option, sym, refl, ap, arith}
 use Rattle.std.specs.List.{filter, AllByRecursion}
+use Rattle.std.proofs.lemmas.Bool.Decides.{nat_tests}
 use Rattle.rules.specs.declared.types.Reservation.{Reservation}
 use Rattle.rules.specs.Lists.{total, find, change, without}
 use Rattle.rules.proofs.Weights.{weight, weight_none, weight_sum}
@@ -36,29 +37,15 @@ total_kept f p (x ∷ xs) (h, hs) = go (p x) refl (total_kept f p xs hs)
     go false e more = omega (arith, h e)
 
 module _ (f : Reservation → ℕ) (n : ℕ) (r : Reservation) where
-  none_found : {P : Type 0} → ◌≡◌ {A = Option Reservation} None (Some r) → P
-  none_found h = let z : ◌≡◌ {A = ℕ} 0 1 = cc in absurd (omega arith)
-
-  same_found : (x : Reservation) → Some x ≡ Some r → f x ≡ f r
-  same_found x h = cc
-
   -- One reservation in the place of another.
   pub total_change : (x : Reservation) (xs : List Reservation) → find n xs ≡ Some r → total f (change n x xs) + f r ≡ total f xs + f x
-  total_change x [] h = none_found h
-  total_change x (y ∷ ys) h = go (eqb y.number n) h (total_change x ys)
-    where
-      go : (b : Bool) → cond b (Some y) (find n ys) ≡ Some r → (find n ys ≡ Some r → total f (change n x ys) + f r ≡ total f ys + f x) → total f (cond b (x ∷ ys) (y ∷ change n x ys)) + f r ≡ f y + total f ys + f x
-      go true e more = omega (arith, same_found y e)
-      go false e more = omega (arith, more e)
+  total_change x [] h = cc
+  total_change x (y ∷ ys) h = let more = total_change x ys in grind (arith, nat_tests)
 
   -- One reservation less.
   pub total_without : (xs : List Reservation) → find n xs ≡ Some r → total f (without n xs) + f r ≡ total f xs
-  total_without [] h = none_found h
-  total_without (y ∷ ys) h = go (eqb y.number n) h (total_without ys)
-    where
-      go : (b : Bool) → cond b (Some y) (find n ys) ≡ Some r → (find n ys ≡ Some r → total f (without n ys) + f r ≡ total f ys) → total f (cond b ys (y ∷ without n ys)) + f r ≡ f y + total f ys
-      go true e more = omega (arith, same_found y e)
-      go false e more = omega (arith, more e)
+  total_without [] h = cc
+  total_without (y ∷ ys) h = let more = total_without ys in grind (arith, nat_tests)
 
   -- A reservation found counts.
   pub total_found : (xs : List Reservation) → find n xs ≡ Some r → f r ≤ total f xs
