@@ -1,5 +1,5 @@
 -- Whom a core is dealt to: it is live and ready on the core, it goes before every other that is, and no other core names it.
-use Rattle.std.proofs.Common.{◌≡◌, ℕ, zero, suc, ◌+◌, ◌<◌, ◌≤◌, Bool, true, false, cond, ◌||◌, eqb, ◌⊎◌, List, [], ◌∷◌, get_or, Some, None, filter, Option, sym, refl, ap, ◌∙◌, subst, inl, inr, add-zero, zero-add, arith}
+use Rattle.std.proofs.Common.{◌≡◌, ℕ, zero, suc, ◌+◌, ◌<◌, ◌≤◌, Bool, true, false, cond, ◌||◌, eqb, List, [], ◌∷◌, get_or, Some, None, filter, Option, sym, refl, ap, ◌∙◌, subst, ⊎_elim, add-zero, zero-add, arith}
 use Rattle.std.specs.Option.{option_map}
 use Rattle.std.specs.List.{AllByRecursion}
 use Rattle.std.proofs.lemmas.Bool.{both_ways, eqb-true, and_parts, cond_both, cases_lt}
@@ -94,11 +94,10 @@ name_found c n rs a h = go (pick c rs) refl h
 -- A number that is not live is not named.
 pub not_named : (c k n : ℕ) (rs : List Reservation) → Above 0 rs → find n rs ≡ None → is_named n (picks_from c k rs) ≡ false
 not_named c zero n rs a h = refl
-not_named c (suc k) n rs a h = go (is_name n (option_map (λ r. r.number) (pick c rs))) refl (not_named (suc c) k n rs a h)
-  where
-    go : (t : Bool) → is_name n (option_map (λ r. r.number) (pick c rs)) ≡ t → is_named n (picks_from (suc c) k rs) ≡ false → (t || is_named n (picks_from (suc c) k rs)) ≡ false
-    go true e ih = absurd (none-some _ (sym h ∙ (name_found c n rs a e).1))
-    go false e ih = ih
+not_named c (suc k) n rs a h =
+    let here : is_name n (option_map (λ r. r.number) (pick c rs)) ≡ true → ⊥ = λ e. none-some _ (sym h ∙ (name_found c n rs a e).1) in
+    let later = not_named (suc c) k n rs a h in
+    grind arith
 
 module _ (n : ℕ) (x : Reservation) (rs : List Reservation) (a : Above 0 rs) (h : find n rs ≡ Some x) where
   name_core : (c : ℕ) → is_name n (option_map (λ r. r.number) (pick c rs)) ≡ true → x.core ≡ c
@@ -109,26 +108,21 @@ module _ (n : ℕ) (x : Reservation) (rs : List Reservation) (a : Above 0 rs) (h
 
   named_past : (c k : ℕ) → x.core < c → is_named n (picks_from c k rs) ≡ false
   named_past c zero l = refl
-  named_past c (suc k) l = go (is_name n (option_map (λ r. r.number) (pick c rs))) refl (named_past (suc c) k (omega arith))
-    where
-      go : (t : Bool) → is_name n (option_map (λ r. r.number) (pick c rs)) ≡ t → is_named n (picks_from (suc c) k rs) ≡ false → (t || is_named n (picks_from (suc c) k rs)) ≡ false
-      go true e ih = let same = name_core c e in absurd (omega arith)
-      go false e ih = ih
+  named_past c (suc k) l =
+      let here = name_core c in
+      let later = named_past (suc c) k (omega arith) in
+      grind arith
 
   named_from : (c k : ℕ) → c ≤ x.core → x.core < c + k → is_named n (picks_from c k rs) ≡ is_name n (option_map (λ r. r.number) (pick x.core rs))
   named_from c zero l m = absurd (omega arith)
-  named_from c (suc k) l m = go (cases_lt c x.core) (λ j. named_from (suc c) k j (omega arith))
-    where
-      go : (c < x.core) ⊎ (x.core ≤ c) → (suc c ≤ x.core → is_named n (picks_from (suc c) k rs) ≡ is_name n (option_map (λ r. r.number) (pick x.core rs))) → is_named n (picks_from c (suc k) rs) ≡ is_name n (option_map (λ r. r.number) (pick x.core rs))
-      go (inl j) ih = other (is_name n (option_map (λ r. r.number) (pick c rs))) refl
-        where
-          other : (t : Bool) → is_name n (option_map (λ r. r.number) (pick c rs)) ≡ t → (t || is_named n (picks_from (suc c) k rs)) ≡ is_name n (option_map (λ r. r.number) (pick x.core rs))
-          other true e = let same = name_core c e in absurd (omega arith)
-          other false e = ih j
-      go (inr j) ih =
-          let same : c ≡ x.core = omega arith in
-          let past = named_past (suc c) k (omega arith) in
-          ap (λ (t : Bool). is_name n (option_map (λ r. r.number) (pick c rs)) || t) past ∙ or-false (is_name n (option_map (λ r. r.number) (pick c rs))) ∙ ap (λ (d : ℕ). is_name n (option_map (λ r. r.number) (pick d rs))) same
+  named_from c (suc k) l m =
+      ⊎_elim
+      (λ (j : c < x.core). let here = name_core c in let later = named_from (suc c) k j (omega arith) in grind arith)
+      (λ (j : x.core ≤ c).
+      let same : c ≡ x.core = omega arith in
+      let past = named_past (suc c) k (omega arith) in
+      ap (λ (t : Bool). is_name n (option_map (λ r. r.number) (pick c rs)) || t) past ∙ or-false (is_name n (option_map (λ r. r.number) (pick c rs))) ∙ ap (λ (d : ℕ). is_name n (option_map (λ r. r.number) (pick d rs))) same)
+      (cases_lt c x.core)
 
   -- A live reservation is named exactly where its core's name is its number.
   pub named_on_core : (k : ℕ) → x.core < k → is_named n (picks k rs) ≡ is_name n (get_or (picks k rs) x.core None)

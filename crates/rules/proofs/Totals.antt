@@ -1,5 +1,5 @@
 -- Sums over a list: of one element more, one changed, one gone, some kept, and of two sums element by element.
-use Rattle.std.proofs.Common.{◌≡◌, ℕ, ◌+◌, ◌≤◌, Bool, true, false, cond, eqb, List, [], ◌∷◌, ◌++◌, map, Some, None, Option, sym, refl, ap, arith}
+use Rattle.std.proofs.Common.{◌≡◌, ℕ, ◌+◌, ◌≤◌, Bool, false, cond, List, [], ◌∷◌, ◌++◌, map, Some, sym, refl, ap, arith}
 use Rattle.std.specs.List.{filter, AllByRecursion}
 use Rattle.std.proofs.lemmas.Bool.Decides.{nat_tests}
 use Rattle.rules.specs.declared.types.Reservation.{Reservation}
@@ -30,11 +30,7 @@ total_sum f g (x ∷ xs) = omega (arith, total_sum f g xs)
 -- What does not pass counts nothing.
 pub total_kept : {X : Type 0} (f : X → ℕ) (p : X → Bool) (xs : List X) → AllByRecursion (λ x. p x ≡ false → f x ≡ 0) xs → total f (filter p xs) ≡ total f xs
 total_kept f p [] h = refl
-total_kept f p (x ∷ xs) (h, hs) = go (p x) refl (total_kept f p xs hs)
-  where
-    go : (b : Bool) → p x ≡ b → total f (filter p xs) ≡ total f xs → total f (cond b (x ∷ filter p xs) (filter p xs)) ≡ f x + total f xs
-    go true e more = ap (λ (n : ℕ). f x + n) more
-    go false e more = omega (arith, h e)
+total_kept f p (x ∷ xs) (h, hs) = let more = total_kept f p xs hs in grind arith
 
 module _ (f : Reservation → ℕ) (n : ℕ) (r : Reservation) where
   -- One reservation in the place of another.
@@ -59,17 +55,14 @@ all_anyway P h (x ∷ xs) = (h x, all_anyway P h xs)
 -- A filter of a mapped list filters what was mapped.
 pub kept_map : {X Y : Type 0} (p : Y → Bool) (f : X → Y) (xs : List X) → filter p (map f xs) ≡ map f (filter (λ x. p (f x)) xs)
 kept_map p f [] = refl
-kept_map p f (x ∷ xs) = go (p (f x)) (kept_map p f xs)
-  where
-    go : (b : Bool) → filter p (map f xs) ≡ map f (filter (λ x. p (f x)) xs) → cond b (f x ∷ filter p (map f xs)) (filter p (map f xs)) ≡ map f (cond b (x ∷ filter (λ x. p (f x)) xs) (filter (λ x. p (f x)) xs))
-    go true more = ap (λ ys. f x ∷ ys) more
-    go false more = more
+kept_map p f (x ∷ xs) = let more = kept_map p f xs in grind arith
 
 -- The weights of the parts that pass are the weight of their sum.
 pub total_weight : {X : Type 0} (p : X → Bool) (parts : X → ℕ) (xs : List X) → total (λ x. cond (p x) (weight (parts x)) 0) xs ≡ weight (total (λ x. cond (p x) (parts x) 0) xs)
 total_weight p parts [] = sym weight_none
-total_weight p parts (x ∷ xs) = go (p x) (total_weight p parts xs)
-  where
-    go : (b : Bool) → total (λ x. cond (p x) (weight (parts x)) 0) xs ≡ weight (total (λ x. cond (p x) (parts x) 0) xs) → cond b (weight (parts x)) 0 + total (λ x. cond (p x) (weight (parts x)) 0) xs ≡ weight (cond b (parts x) 0 + total (λ x. cond (p x) (parts x) 0) xs)
-    go true more = omega (arith, weight_sum (parts x) (total (λ x. cond (p x) (parts x) 0) xs))
-    go false more = omega (arith, weight_none, weight_sum 0 (total (λ x. cond (p x) (parts x) 0) xs))
+total_weight p parts (x ∷ xs) =
+    let more = total_weight p parts xs in
+    let rest = total (λ y. cond (p y) (parts y) 0) xs in
+    let one = weight_sum (parts x) rest in
+    let none = weight_sum 0 rest in
+    grind (arith, weight_none)
