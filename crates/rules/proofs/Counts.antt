@@ -10,7 +10,7 @@ use Rattle.rules.specs.Setup.{Setup}
 use Rattle.rules.specs.System.{System, fresh}
 use Rattle.rules.specs.Server.{charged, is_due, refilled, woken, keeps}
 use Rattle.rules.specs.Replay.{next, accepts, after, replay}
-use Rattle.rules.specs.Share.{is_settle, is_named, ticks, runs, Lawful}
+use Rattle.rules.specs.Share.{is_settle, ticks, runs, Lawful}
 use Rattle.rules.proofs.Steps.{Step, admits, wakes, rests, leaves, moves, deals, settles, by_step}
 use Rattle.rules.proofs.Finding.{found_above}
 use Rattle.rules.proofs.Basics.{Basic, basic, basic_next}
@@ -46,12 +46,7 @@ clock_after s σ (c ∷ cs) = omega (arith, clock_after s (next s σ c) cs, cloc
 -- It runs no more than the ticks that pass.
 pub runs_le_ticks : (s : Setup) (n : ℕ) (σ : System) (cs : List Call) → runs s n σ cs ≤ ticks s σ cs
 runs_le_ticks s n σ [] = omega arith
-runs_le_ticks s n σ (c ∷ cs) = let l = runs_le_ticks s n (next s σ c) cs in let k = one (is_settle c && accepts s σ c) (is_named n σ.names) in omega arith
-  where
-    one : (t w : Bool) → cond (t && w) 1 0 ≤ cond t 1 0
-    one true true = omega arith
-    one true false = omega arith
-    one false w = omega arith
+runs_le_ticks s n σ (c ∷ cs) = let l = runs_le_ticks s n (next s σ c) cs in grind arith
 
 refilled_ran : (t : ℕ) (y : Reservation) → (refilled t y).ran ≡ y.ran
 refilled_ran t y = cond_both (is_due t y) _ _ (λ (z : Reservation). z.ran ≡ y.ran) (λ _. refl) (λ _. refl)

@@ -1,7 +1,7 @@
 -- A live reservation runs at most its share: since a filling its runs × period are covered by what budget × deadline − left × period has
 -- risen, and the deadline is at most a period ahead.
 use Rattle.std.proofs.Common.{◌≡◌, ℕ, ◌+◌, ◌-◌, ◌*◌, ◌/◌, ◌<◌, ◌≤◌, Bool, true, false, cond, ◌&&◌, ◌⊎◌, List, [], ◌∷◌, is_some, Some, None, Option, sym, refl, ap, ◌∙◌, subst, subst₂, inl, inr, add-zero, add_assoc, mul-le-mul_left, le-div_iff_mul-le, zero-add, arith}
-use Rattle.std.proofs.lemmas.Bool.{both_ways, ltb-false, and_parts, cond_both, cases_lt}
+use Rattle.std.proofs.lemmas.Bool.{ltb-false, and_parts, cond_both, cases_lt}
 use Rattle.std.proofs.lemmas.Option.{none-some, same_Some}
 use Rattle.rules.specs.declared.types.Reservation.{Reservation}
 use Rattle.rules.specs.declared.types.Call.{Call}
@@ -102,7 +102,7 @@ most_law s law past c n q p later f h = go (find n (after s σ later).live) refl
     paid = record { budget = x.budget; period = x.period; paid = omega (arith, ap (λ (m : ℕ). m * p) x.whole, ap (λ (m : ℕ). q * m) x.due) }
 
     go : (o : Option Reservation) → find n (after s σ later).live ≡ o → is_some o ≡ true → runs s n σ later ≤ q * (ticks s σ later + p) / p
-    go None e k = absurd (both_ways false refl k)
+    go None e k = cc
     go (Some r) e k =
         let i = paid_after s law σ b n x.of x.live q p σ.clock 0 paid later r e in
         let fair = fair_at s (after s σ later) (basic_after s law σ later b) n r e in

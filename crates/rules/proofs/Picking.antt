@@ -2,7 +2,7 @@
 use Rattle.std.proofs.Common.{◌≡◌, ℕ, zero, suc, ◌+◌, ◌<◌, ◌≤◌, Bool, true, false, cond, ◌||◌, eqb, List, [], ◌∷◌, get_or, Some, None, filter, Option, sym, refl, ap, ◌∙◌, subst, ⊎_elim, add-zero, zero-add, arith}
 use Rattle.std.specs.Option.{option_map}
 use Rattle.std.specs.List.{AllByRecursion}
-use Rattle.std.proofs.lemmas.Bool.{both_ways, eqb-true, and_parts, cond_both, cases_lt}
+use Rattle.std.proofs.lemmas.Bool.{eqb-true, and_parts, cond_both, cases_lt}
 use Rattle.std.proofs.lemmas.Bool.Decides.{nat_tests}
 use Rattle.std.proofs.ByRecursion.{All-weaker, all_kept_by, kept_by_passes}
 use Rattle.std.proofs.lemmas.Option.{none-some, same_Some}
@@ -53,7 +53,7 @@ all_passing p P (x ∷ xs) a = go (p x) refl (all_passing p P xs) a
   where
     go : (t : Bool) → p x ≡ t → (AllByRecursion P (filter p xs) → AllByRecursion (λ x. p x ≡ true → P x) xs) → AllByRecursion P (cond t (x ∷ filter p xs) (filter p xs)) → AllByRecursion (λ x. p x ≡ true → P x) (x ∷ xs)
     go true e ih b = ((λ _. b.0), ih b.1)
-    go false e ih b = ((λ k. absurd (both_ways (p x) e k)), ih b)
+    go false e ih b = ((λ k. cc), ih b)
 
 -- The one picked is live, and ready on the core.
 pub pick_found : (c : ℕ) (rs : List Reservation) (r : Reservation) → Above 0 rs → pick c rs ≡ Some r → find r.number rs ≡ Some r
@@ -88,7 +88,7 @@ pub name_found : (c n : ℕ) (rs : List Reservation) → Above 0 rs → is_name 
 name_found c n rs a h = go (pick c rs) refl h
   where
     go : (o : Option Reservation) → pick c rs ≡ o → is_name n (option_map (λ r. r.number) o) ≡ true → (x : Reservation) × (find n rs ≡ Some x) × (is_ready_on c x ≡ true)
-    go None e k = absurd (both_ways false refl k)
+    go None e k = cc
     go (Some x) e k = (x, subst (λ (m : ℕ). find m rs ≡ Some x) (eqb-true x.number n k) (pick_found c rs x a e), pick_ready c rs x e)
 
 -- A number that is not live is not named.
