@@ -85,18 +85,12 @@ module _ {X : Type 0} {before : X → X → Bool} (o : Total before) where
   first_none (x ∷ xs) none = absurd (filed_some x (queue before xs) none)
     where
       filed_some : (z : X) (q : List X) → first (filed before z q) ≡ None → ⊥
-      filed_some z [] h = let no_way : ◌≡◌ {A = ℕ} 0 1 = cc in omega arith
-      filed_some z (y ∷ ys) h = ⊎_elim
-          (λ e. let k : Some z ≡ None = rw e at h in let no_way : ◌≡◌ {A = ℕ} 0 1 = cc in omega arith)
-          (λ e. let k : Some y ≡ None = rw e at h in let no_way : ◌≡◌ {A = ℕ} 0 1 = cc in omega arith)
-          (cases_Bool (before z y))
-
-  some_same : (x y : X) → Some x ≡ Some y → x ≡ y
-  some_same x y h = cc
+      filed_some z [] h = cc
+      filed_some z (y ∷ ys) h = grind arith
 
   first_of : (x : X) (q : List X) → first q ≡ Some x → (rest : List X) × (q ≡ x ∷ rest)
-  first_of x [] is = let no_way : ◌≡◌ {A = ℕ} 0 1 = cc in absurd (omega arith)
-  first_of x (y ∷ ys) is = (ys, ap (λ z. z ∷ ys) (some_same y x is))
+  first_of x [] is = cc
+  first_of x (y ∷ ys) is = (ys, cc)
 
   -- the first of a queue is in the list, and is at most all
   pub first_some : (xs : List X) (x : X) → first (queue before xs) ≡ Some x → (holds before x xs ≡ true) × Heads before x xs
