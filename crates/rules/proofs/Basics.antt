@@ -1,9 +1,9 @@
 -- The plain invariant of every replay: what each live reservation keeps, the order of the numbers, the names and the ledger.
 use Rattle.std.proofs.Common.{◌≡◌, ℕ, suc, ◌+◌, ◌-◌, ◌*◌, ◌/◌, ◌<◌, ◌≤◌, Bool, true, false, cond, eqb, ltb, List, [], ◌∷◌, length, get_or, Some, None, Option, refl, ap, ◌∙◌, subst, arith}
 use lib.ListN.{length-map}
-use Rattle.std.specs.List.{AllByRecursion}
+use Rattle.std.specs.List.{All}
 use Rattle.std.proofs.lemmas.Bool.{ltb-true, leb-true, eqb-true, eqb-false, and_parts, cond_both}
-use Rattle.std.proofs.ByRecursion.{All-weaker, All-push, All-map, kept_by_passes}
+use Rattle.std.proofs.lemmas.List.Elements.{All-nil, All-cons, All-weaker, All-push, All-map, filter_passes}
 use Rattle.terms.specs.Limits.{in_limits}
 use Rattle.rules.specs.declared.types.Reservation.{Reservation}
 use Rattle.rules.specs.declared.types.State.{State}
@@ -14,7 +14,7 @@ use Rattle.rules.specs.Lists.{find}
 use Rattle.rules.specs.Setup.{Setup}
 use Rattle.rules.specs.System.{System, fresh}
 use Rattle.rules.specs.Parts.{bounds, rooms, rooms_from}
-use Rattle.rules.specs.Server.{is_ready, is_spent, wanting, served, on_core, filled_to, keeps, woken, rested, charged, charged_if, is_name, is_due, refilled, lapse}
+use Rattle.rules.specs.Server.{is_ready, is_spent, wanting, served, on_core, filled_to, keeps, woken, rested, charged, charged_if, is_name, is_due, refilled, lapse, entry_of}
 use Rattle.rules.specs.Dealing.{picks}
 use Rattle.rules.specs.Calls.{admitted, entry_due, ledger_after}
 use Rattle.rules.specs.Replay.{next, after, replay}
@@ -35,10 +35,10 @@ pub record Fair (s : Setup) (t given : ℕ) (r : Reservation) : Type 0 where
 
 pub record Basic (s : Setup) (σ : System) : Type 0 where
   pub ascending : Above 0 σ.live
-  pub fair : AllByRecursion (Fair s σ.clock σ.given) σ.live
+  pub fair : All (Fair s σ.clock σ.given) σ.live
   pub dealt : σ.out ≡ true → σ.names ≡ picks (length s.figures) σ.live
   pub none_dealt : σ.out ≡ false → σ.names ≡ []
-  pub lapsing : AllByRecursion (λ e. σ.clock < e.lapse) σ.ledger
+  pub lapsing : All (λ e. σ.clock < e.lapse) σ.ledger
   pub started : s.start ≤ σ.clock
 
 -- The limits as orders.
@@ -118,8 +118,8 @@ ticked_number names t r =
 pub woken_number : (t : ℕ) (r : Reservation) → (woken t r).number ≡ r.number
 woken_number t r = cond_both (keeps t r) _ _ (λ (x : Reservation). x.number ≡ r.number) (λ _. refl) (λ _. refl)
 
-lapsing_after : (σ : System) (r : Reservation) → AllByRecursion (λ e. σ.clock < e.lapse) σ.ledger → AllByRecursion (λ e. σ.clock < e.lapse) (ledger_after σ r)
-lapsing_after σ r a = cond_both (entry_due σ r) _ _ (AllByRecursion (λ e. σ.clock < e.lapse)) (λ e. (ltb-true σ.clock (lapse r) e, a)) (λ _. a)
+lapsing_after : (σ : System) (r : Reservation) → All (λ e. σ.clock < e.lapse) σ.ledger → All (λ e. σ.clock < e.lapse) (ledger_after σ r)
+lapsing_after σ r a = cond_both (entry_due σ r) _ _ (All (λ e. σ.clock < e.lapse)) (λ e. All-cons (λ e. σ.clock < e.lapse) (entry_of r) σ.ledger (ltb-true σ.clock (lapse r) e) a) (λ _. a)
 
 basic_step : (s : Setup) → Lawful s → (σ : System) (c : Call) (a : Answer) (σ' : System) → Basic s σ → Step s σ c a σ' → Basic s σ'
 basic_step s law σ c a σ' b (admits q p parts core limits taken settled place number chosen) = record {
@@ -187,7 +187,7 @@ basic_step s law σ c a σ' b (settles tick out right) = record {
   fair = All-map (Fair s (σ.clock + 1) σ.given) (λ r. refilled (σ.clock + 1) (charged_if σ.names r)) σ.live (All-weaker (Fair s σ.clock σ.given) _ (λ r f. fair_refilled s σ.clock σ.given _ (fair_run s σ.clock σ.given r f (is_name r.number (get_or σ.names r.core None)))) σ.live b.fair);
   dealt = λ e. cc;
   none_dealt = λ _. refl;
-  lapsing = All-weaker (λ e. ltb (σ.clock + 1) e.lapse ≡ true) (λ e. σ.clock + 1 < e.lapse) (λ e h. ltb-true _ _ h) _ (kept_by_passes (λ e. ltb (σ.clock + 1) e.lapse) σ.ledger);
+  lapsing = All-weaker (λ e. ltb (σ.clock + 1) e.lapse ≡ true) (λ e. σ.clock + 1 < e.lapse) (λ e h. ltb-true _ _ h) _ (filter_passes (λ e. ltb (σ.clock + 1) e.lapse) σ.ledger);
   started = let l = b.started in omega arith;
 }
 
@@ -200,4 +200,4 @@ basic_after s law σ (c ∷ cs) b = basic_after s law (next s σ c) cs (basic_ne
 
 -- The plain invariant holds of every replay.
 pub basic : (s : Setup) → Lawful s → (past : List Call) → Basic s (replay s past)
-basic s law past = basic_after s law (fresh s) past (record { ascending = tt; fair = tt; dealt = λ e. cc; none_dealt = λ _. refl; lapsing = tt; started = omega arith })
+basic s law past = basic_after s law (fresh s) past (record { ascending = tt; fair = All-nil (Fair s s.start 0); dealt = λ e. cc; none_dealt = λ _. refl; lapsing = All-nil (λ e. s.start < e.lapse); started = omega arith })

@@ -1,6 +1,7 @@
 -- Sums over a list: of one element more, one changed, one gone, some kept, and of two sums element by element.
 use Rattle.std.proofs.Common.{◌≡◌, ℕ, ◌+◌, ◌≤◌, Bool, false, cond, List, [], ◌∷◌, ◌++◌, map, Some, sym, refl, ap, arith}
-use Rattle.std.specs.List.{filter, AllByRecursion}
+use Rattle.std.specs.List.{filter, All}
+use Rattle.std.proofs.lemmas.List.Elements.{All-head, All-tail}
 use Rattle.std.proofs.lemmas.Bool.Decides.{nat_tests}
 use Rattle.rules.specs.declared.types.Reservation.{Reservation}
 use Rattle.rules.specs.Lists.{total, find, change, without}
@@ -15,9 +16,9 @@ total_map f g [] = refl
 total_map f g (x ∷ xs) = ap (λ (n : ℕ). f (g x) + n) (total_map f g xs)
 
 -- Element by element.
-pub total_le : {X : Type 0} (f g : X → ℕ) (xs : List X) → AllByRecursion (λ x. f x ≤ g x) xs → total f xs ≤ total g xs
+pub total_le : {X : Type 0} (f g : X → ℕ) (xs : List X) → All (λ x. f x ≤ g x) xs → total f xs ≤ total g xs
 total_le f g [] h = omega arith
-total_le f g (x ∷ xs) (h, hs) = omega (arith, h, total_le f g xs hs)
+total_le f g (x ∷ xs) h = omega (arith, All-head (λ y. f y ≤ g y) x xs h, total_le f g xs (All-tail (λ y. f y ≤ g y) x xs h))
 
 pub total_none : {X : Type 0} (f : X → ℕ) → ((x : X) → f x ≡ 0) → (xs : List X) → total f xs ≡ 0
 total_none f h [] = refl
@@ -28,9 +29,12 @@ total_sum f g [] = refl
 total_sum f g (x ∷ xs) = omega (arith, total_sum f g xs)
 
 -- What does not pass counts nothing.
-pub total_kept : {X : Type 0} (f : X → ℕ) (p : X → Bool) (xs : List X) → AllByRecursion (λ x. p x ≡ false → f x ≡ 0) xs → total f (filter p xs) ≡ total f xs
+pub total_kept : {X : Type 0} (f : X → ℕ) (p : X → Bool) (xs : List X) → All (λ x. p x ≡ false → f x ≡ 0) xs → total f (filter p xs) ≡ total f xs
 total_kept f p [] h = refl
-total_kept f p (x ∷ xs) (h, hs) = let more = total_kept f p xs hs in grind arith
+total_kept f p (x ∷ xs) h =
+    let here = All-head (λ y. p y ≡ false → f y ≡ 0) x xs h in
+    let more = total_kept f p xs (All-tail (λ y. p y ≡ false → f y ≡ 0) x xs h) in
+    grind arith
 
 module _ (f : Reservation → ℕ) (n : ℕ) (r : Reservation) where
   -- One reservation in the place of another.
@@ -46,11 +50,6 @@ module _ (f : Reservation → ℕ) (n : ℕ) (r : Reservation) where
   -- A reservation found counts.
   pub total_found : (xs : List Reservation) → find n xs ≡ Some r → f r ≤ total f xs
   total_found xs h = omega (arith, total_without xs h)
-
--- What holds of anything holds of each.
-pub all_anyway : {X : Type 0} (P : X → Type 0) → ((x : X) → P x) → (xs : List X) → AllByRecursion P xs
-all_anyway P h [] = tt
-all_anyway P h (x ∷ xs) = (h x, all_anyway P h xs)
 
 -- A filter of a mapped list filters what was mapped.
 pub kept_map : {X Y : Type 0} (p : Y → Bool) (f : X → Y) (xs : List X) → filter p (map f xs) ≡ map f (filter (λ x. p (f x)) xs)
