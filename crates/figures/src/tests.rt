@@ -2,7 +2,6 @@
 use super::{parts, worked};
 use measure::{Catalogue, Measure, Rounded};
 use policy::{BestFit, FirstFit, Policy, WorstFit};
-use std::process::Abort;
 use std::test::Fail;
 use terms::{Refusal, Terms};
 
@@ -78,37 +77,38 @@ fn catalogue_takes_its_rows(rt: HostRuntime) {
     assert_eq!(rt; Catalogue.whole(), 1000);
 }
 
-// First, worst and best fit name these cores.
-fn named(
-    rt: &impl Abort,
-    rooms: &[u32],
-    parts: u32,
-    first: Option<usize>,
-    worst: Option<usize>,
-    best: Option<usize>,
-) {
-    assert_eq!(rt; FirstFit.choose(rooms, parts), first);
-    assert_eq!(rt; WorstFit.choose(rooms, parts), worst);
-    assert_eq!(rt; BestFit.choose(rooms, parts), best);
+// The cores that first, worst and best fit name.
+fn named(rooms: &[u32], parts: u32) -> [Option<usize>; 3] {
+    [
+        FirstFit.choose(rooms, parts),
+        WorstFit.choose(rooms, parts),
+        BestFit.choose(rooms, parts),
+    ]
 }
 
 #[test]
 fn fits_name_a_core(rt: HostRuntime) {
-    named(&rt, &[3, 9, 5], 4, Some(1), Some(1), Some(2));
-    named(&rt, &[9, 4, 4, 9], 4, Some(0), Some(0), Some(1));
-    named(&rt, &[3, 5, 9, 9, 5], 4, Some(1), Some(2), Some(1));
-    named(&rt, &[7, 6, 5, 4], 4, Some(0), Some(0), Some(3));
-    named(&rt, &[4, 5, 6, 7], 5, Some(1), Some(3), Some(1));
-    named(&rt, &[1, 2, 3, 4, 5, 6, 7, 8], 8, Some(7), Some(7), Some(7));
-    named(&rt, &[0, u32::MAX], u32::MAX, Some(1), Some(1), Some(1));
-    named(&rt, &[0, 0], 0, Some(0), Some(0), Some(0));
+    assert_eq!(rt; named(&[3, 9, 5], 4), [Some(1), Some(1), Some(2)]);
+    assert_eq!(rt; named(&[9, 4, 4, 9], 4), [Some(0), Some(0), Some(1)]);
+    assert_eq!(rt; named(&[3, 5, 9, 9, 5], 4), [Some(1), Some(2), Some(1)]);
+    assert_eq!(rt; named(&[7, 6, 5, 4], 4), [Some(0), Some(0), Some(3)]);
+    assert_eq!(rt; named(&[4, 5, 6, 7], 5), [Some(1), Some(3), Some(1)]);
+    assert_eq!(rt;
+        named(&[1, 2, 3, 4, 5, 6, 7, 8], 8),
+        [Some(7), Some(7), Some(7)]
+    );
+    assert_eq!(rt;
+        named(&[0, u32::MAX], u32::MAX),
+        [Some(1), Some(1), Some(1)]
+    );
+    assert_eq!(rt; named(&[0, 0], 0), [Some(0), Some(0), Some(0)]);
 }
 
 #[test]
 fn fits_name_none(rt: HostRuntime) {
-    named(&rt, &[3, 2, 1], 4, None, None, None);
-    named(&rt, &[0], 1, None, None, None);
-    named(&rt, &[], 0, None, None, None);
+    assert_eq!(rt; named(&[3, 2, 1], 4), [None, None, None]);
+    assert_eq!(rt; named(&[0], 1), [None, None, None]);
+    assert_eq!(rt; named(&[], 0), [None, None, None]);
 }
 
 #[test]

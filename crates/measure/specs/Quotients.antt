@@ -18,13 +18,13 @@ module _ (budget period : ℕ) (within : in_limits budget period ≡ true) where
   part : budget ≤ period
   part = grind (arith, nat_tests)
 
-  up_covers : budget * rounded_whole ≤ quotient_up (budget * rounded_whole) period * period
+  pub up_covers : budget * rounded_whole ≤ quotient_up (budget * rounded_whole) period * period
   up_covers = omega (arith, some, lt-div-mul-add {a = budget * rounded_whole + (period - 1)} some)
 
-  up_low : 1 ≤ quotient_up (budget * rounded_whole) period
+  pub up_low : 1 ≤ quotient_up (budget * rounded_whole) period
   up_low = le-div 1 (budget * rounded_whole + (period - 1)) period some (omega (arith, some_budget))
 
-  up_high : quotient_up (budget * rounded_whole) period ≤ rounded_whole
+  pub up_high : quotient_up (budget * rounded_whole) period ≤ rounded_whole
   up_high =
       let below = div_below (budget * rounded_whole + (period - 1)) period (rounded_whole + 1) some (omega (arith, some, part)) in
       omega arith

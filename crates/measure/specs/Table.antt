@@ -1,5 +1,5 @@
 -- The law of a catalogue from one test over all its rows.
-use Rattle.std.specs.Prelude.{◌≡◌, ℕ, ◌*◌, Bool, true, ◌&&◌, List, [], ◌∷◌, Some, nat_le, refl}
+use Rattle.std.specs.Prelude.{◌≡◌, ℕ, ◌*◌, ◌≤◌, Bool, true, ◌&&◌, List, [], ◌∷◌, Some, nat_le, refl}
 use Rattle.std.proofs.Common.{arith, lit≤}
 use Rattle.std.proofs.lemmas.Bool.Decides.{nat_tests}
 use Rattle.std.specs.List.{list_all}
@@ -27,15 +27,25 @@ priced_fair whole (r ∷ others) h budget period parts e =
 all_fair : every catalogue_whole rows ≡ true
 all_fair = refl
 
-row_fair : (budget period parts : ℕ) → catalogue budget period ≡ Some parts → fair catalogue_whole budget period parts ≡ true
-row_fair = priced_fair catalogue_whole rows all_fair
+module _ (budget period parts : ℕ) (taken : catalogue budget period ≡ Some parts) where
+  row_fair : fair catalogue_whole budget period parts ≡ true
+  row_fair = priced_fair catalogue_whole rows all_fair budget period parts taken
+
+  pub row_covers : budget * catalogue_whole ≤ parts * period
+  row_covers = let fact = row_fair in grind (arith, nat_tests)
+
+  pub row_low : 1 ≤ parts
+  row_low = let fact = row_fair in grind (arith, nat_tests)
+
+  pub row_high : parts ≤ catalogue_whole
+  row_high = let fact = row_fair in grind (arith, nat_tests)
 
 -- The catalogue's law.
 pub catalogue_lawful : Lawful catalogue_whole catalogue
 catalogue_lawful = record {
   whole_low = lit≤ tt;
   whole_high = lit≤ tt;
-  covers = λ budget period parts within taken. let fact = row_fair budget period parts taken in grind (arith, nat_tests);
-  low = λ budget period parts within taken. let fact = row_fair budget period parts taken in grind (arith, nat_tests);
-  high = λ budget period parts within taken. let fact = row_fair budget period parts taken in grind (arith, nat_tests);
+  covers = λ budget period parts within. row_covers budget period parts;
+  low = λ budget period parts within. row_low budget period parts;
+  high = λ budget period parts within. row_high budget period parts;
 }
