@@ -25,7 +25,6 @@ no_queue = record {
   calendar = counting 0;
   places = replicate live_limit (record { deadline = 0; number = 0 });
   least = None;
-  sized = refl;
   known = refl;
 }
 

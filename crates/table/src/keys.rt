@@ -1,9 +1,8 @@
 // A ready reservation's key, and one core's ready queue in places of its own.
-ghost use Rattle.std.specs.Prelude.{◌≡◌, length};
+ghost use Rattle.std.specs.Prelude.{◌≡◌};
 ghost use Rattle.std.specs.Coded.{Coded-set};
 ghost use Rattle.calendar.specs.Places.{held};
 ghost use Rattle.calendar.specs.Queues.{first, queue};
-ghost use Rattle.rules.specs.System.{live_limit};
 ghost use Rattle.table.specs.Order.{key_of, no_later};
 ghost use Rattle.std.proofs.Common.{rules};
 
@@ -44,7 +43,6 @@ pub struct Queue {
     calendar: Calendar,
     places: [Key; LIVE_LIMIT],
     least: Option<Key>,
-    ghost sized: { length places ≡ live_limit },
     ghost known: { least ≡ first (queue no_later (held calendar places)) } by { Coded-set least-code least (first (queue no_later (held calendar places))) },
 }
 

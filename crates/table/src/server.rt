@@ -2,7 +2,6 @@
 ghost use Rattle.std.specs.Prelude.{◌≡◌, ◌-◌, ◌≤◌, true};
 ghost use Rattle.rules.specs.Setup.{last_tick};
 ghost use Rattle.rules.specs.Server.{charged, filled_to, is_behind, is_name, is_ready, is_spent, keeps, lapse as lapse_tick, wanting, woken};
-ghost use Rattle.table.specs.Calls.{ticked};
 ghost use Rattle.table.specs.Events.{verdict, after_event};
 ghost use Rattle.table.specs.Rows.{fit};
 
@@ -36,27 +35,10 @@ pub fn change(row: &mut Reservation, event: Event, clock: u32) -> Result<(), Ref
         (State::Resting, Event::Rest) => return Err(Refusal::Resting),
         (_, Event::Rest) => row.state = State::Resting,
         (_, Event::Charge) => charge(row),
-        (State::Spent, Event::Refill) => {
-            if row.deadline == clock {
-                fill(row, clock + row.period);
-            }
-        }
+        (State::Spent, Event::Refill) if row.deadline == clock => fill(row, clock + row.period),
         (_, Event::Refill) => {}
     }
     Ok(())
-}
-
-// Charges a row where it is the one named for its core, and then fills it where it is due.
-pub fn pass_tick(row: &mut Reservation, picks: &Picks, clock: u32)
-    requires low { 1 ≤ clock }
-    requires high { clock ≤ last_tick }
-    requires fits { fit (clock - 1) row.old ≡ true }
-    ensures { row.new ≡ ticked picks.now.names clock row.old }
-{
-    if picks.names[row.core as usize] == Some(row.number) {
-        let _ = change(row, Event::Charge, clock);
-    }
-    let _ = change(row, Event::Refill, clock);
 }
 
 // Keeps budget and deadline where the budget left is below the reserved share of the time to the deadline, else fills it.

@@ -30,14 +30,20 @@ impl Queue {
         ensures { waiting self.new ≡ filed no_later key (waiting self.old) }
     {
         let _ = self.calendar.put(&mut self.places, key);
-        self.least = Some(ahead(key, self.least));
+        self.least = Some(self.least.map_or(key, |least| key.min(least)));
     }
 
     // Takes one copy of a key out, where it is held.
     pub fn take(&mut self, key: Key)
         ensures { waiting self.new ≡ without no_later key (waiting self.old) }
     {
-        self.least = take_out(&mut self.calendar, &mut self.places, key);
+        let Queue {
+            calendar,
+            places,
+            least,
+        } = self;
+        let _ = calendar.take_one(places, key);
+        *least = calendar.least(places);
     }
 
     // The key that goes first, or none of an empty queue.
@@ -46,23 +52,4 @@ impl Queue {
     {
         self.least
     }
-}
-
-// Of a key and the first of the others, the one that goes first.
-fn ahead(key: Key, first: Option<Key>) -> Key
-    ensures { result ≡ ahead key first }
-{
-    match first {
-        Some(other) if !key.at_most(other) => other,
-        _ => key,
-    }
-}
-
-// Takes one copy of a key out, where it is held, and shows the least that is left.
-fn take_out(calendar: &mut Calendar, places: &mut [Key], key: Key) -> Option<Key>
-    ensures least { result ≡ first (queue no_later (held calendar.new places.new)) }
-    ensures next { queue no_later (held calendar.new places.new) ≡ without no_later key (queue no_later (held calendar.old places.old)) }
-{
-    let _ = calendar.take_one(places, key);
-    calendar.least(places)
 }

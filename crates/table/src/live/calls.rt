@@ -6,7 +6,7 @@ ghost use Rattle.table.specs.View.{clock_of, live_of, shown};
 
 use super::Table;
 use crate::keys::Queue;
-use crate::passing::pass_rows;
+use crate::passing::Tick;
 use crate::ready::unfile;
 use crate::server::{Event, Picks};
 use arrayvec::ArrayVec;
@@ -118,7 +118,11 @@ impl Table {
             return Err(Refusal::ClockEnd);
         }
         self.clock += 1;
-        pass_rows(&mut self.rows, &mut self.ready, picks, self.clock);
+        let tick = Tick {
+            picks,
+            clock: self.clock,
+        };
+        tick.pass_rows(&mut self.rows, &mut self.ready);
         Ok(self.clock)
     }
 }

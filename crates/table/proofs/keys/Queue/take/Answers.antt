@@ -3,4 +3,4 @@ use Rattle.table.proofs.keys.Queue.take.Goals as goal
 
 pub returns : goal.returns
 unfolding waiting
-returns c = c.take_out-self.ensures.next
+returns c = c.take_one.ensures.ordered
