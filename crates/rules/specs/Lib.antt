@@ -1,6 +1,7 @@
 pub mod Lists
 pub mod Setup
 pub mod System
+pub mod Words
 pub mod Order
 pub mod Parts
 pub mod Server

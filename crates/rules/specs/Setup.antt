@@ -1,5 +1,6 @@
 -- What an engine is made from: the meanings of its measure and its policy, a figure B for each core, and the first tick.
-use Rattle.std.specs.Prelude.{ℕ, Bool, true, cond, ◌&&◌, List, [], ◌∷◌, length, Some, None, Option, nat_le}
+use Rattle.std.specs.Prelude.{ℕ, Bool, cond, ◌&&◌, List, length, Some, None, Option, nat_le}
+use Rattle.std.specs.List.{list_all}
 use Rattle.terms.specs.declared.refusals.Refusal.{Refusal}
 use Rattle.terms.specs.declared.refusals.Refusal.TheVariants.{Cores, Bandwidth, Start}
 
@@ -23,8 +24,7 @@ last_tick = 4000000000
 
 -- Each figure B is 1 to 1,000.
 abbrev pub figures_fit : List ℕ → Bool
-figures_fit [] = true
-figures_fit (b ∷ bs) = nat_le 1 b && nat_le b 1000 && figures_fit bs
+figures_fit figures = list_all (λ b. nat_le 1 b && nat_le b 1000) figures
 
 -- What refuses the making of an engine, the first that applies: 1 to 8 cores, each B from 1 to 1,000, a first tick of at most the last.
 abbrev pub making : List ℕ → ℕ → Option Refusal

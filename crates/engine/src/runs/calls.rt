@@ -17,10 +17,7 @@ use terms::Refusal;
 fn departed(departure: Departure) -> Answer
     ensures { result ≡ departure_said departure }
 {
-    match departure {
-        Departure::Until(tick) => Answer::Until(tick),
-        Departure::Free => Answer::Free,
-    }
+    departure.until.map_or(Answer::Free, Answer::Until)
 }
 
 impl<M: Measure, P: Policy> Runner<M, P> {

@@ -38,6 +38,13 @@ impl Table {
         }
     }
 
+    // The live reservations in order.
+    pub fn live(&self) -> &[Reservation]
+        ensures { result.now ≡ live_of self.now }
+    {
+        &self.inner.rows[..self.inner.count]
+    }
+
     // The live reservation at this place.
     pub fn row(&self, index: usize) -> Option<Reservation>
         ensures { result ≡ slice_get (live_of self.now) index }

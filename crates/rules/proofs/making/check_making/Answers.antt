@@ -1,7 +1,7 @@
 use Rattle.std.proofs.Common.{arith}
 use Rattle.std.proofs.lemmas.Bool.Decides.{nat_tests}
 use Rattle.rules.proofs.Shares.{shares}
-use Rattle.rules.proofs.making.making_refusal.Goals as goal
+use Rattle.rules.proofs.making.check_making.Goals as goal
 
 pub returns : goal.returns
 returns g c = record {
