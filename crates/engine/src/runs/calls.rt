@@ -21,7 +21,8 @@ fn departed(departure: Departure) -> Answer
 }
 
 impl<M: Measure, P: Policy> Runner<M, P> {
-    // Makes a call and tells the observer what it answers, and whom a deal named.
+    // Makes a call and tells the observer what it answers, and whom a deal named. In line, as a round's two calls are known.
+    #[inline(always)]
     pub fn perform<O: Observer>(&mut self, call: Call, observer: &mut O) -> Result<(), Refusal>
         ensures { Drove M.Measure.whole M.Measure.price P.Policy.choice O.Observer.shows (trying call) self.old observer.old (is_ok result) self.new observer.new }
     {
@@ -39,7 +40,8 @@ impl<M: Measure, P: Policy> Runner<M, P> {
         }
     }
 
-    // Makes a call.
+    // Makes a call. In line as well.
+    #[inline(always)]
     fn make(&mut self, call: Call) -> Result<Answer, Refusal>
         ensures { Called M.Measure.whole M.Measure.price P.Policy.choice call self.old (answer_by (λ a. a) result) self.new }
     {
