@@ -1,20 +1,18 @@
 -- The earliest tick, and what a purge takes and leaves.
 -- Assumes nothing.
 use Rattle.std.proofs.Common.{◌≡◌, ℕ, ◌+◌, ◌<◌, ◌≤◌, min, true, false, leb, List, [], ◌∷◌, length, take, set, Some, None, IfSome, Option, sym, refl, ap, ◌∙◌, arith}
-use Rattle.std.specs.List.{All}
-use Rattle.std.proofs.lemmas.List.{take_more_set, length-set}
-use Rattle.std.proofs.lemmas.List.Elements.{All-head, All-tail}
+use Rattle.std.specs.List.{AllByRecursion}
+use Rattle.std.proofs.lemmas.List.{take_more_set}
 use Rattle.std.proofs.lemmas.List.Recursion.{and_push}
 use Rattle.std.proofs.lemmas.Bool.{le-leb, lt-ltb, le-ltb, cond-true, cond-false}
 use Rattle.std.proofs.lemmas.Bool.Decides.{nat_tests}
 use Rattle.calendar.specs.declared.Calendar.{Calendar}
-use Rattle.calendar.specs.Places.{counting, less, put_calendar, put_places}
+use Rattle.calendar.specs.Places.{counting, put_calendar, put_places}
 use Rattle.calendar.specs.Queues.{queue, first, after}
 use Rattle.calendar.proofs.Filters.{kept_queue}
 use Rattle.calendar.proofs.Sorted.{first_some, first_none}
 use Rattle.rules.specs.declared.types.Entry.{Entry}
 use Rattle.rules.specs.Order.{lapses_first}
-use Rattle.rules.specs.System.{ledger_limit}
 use Rattle.ledger.specs.Entries.{SameEntries, purged}
 use Rattle.ledger.specs.Lapses.{none_before, lapses_after}
 use Rattle.ledger.proofs.Order.{order, first_lapses}
@@ -32,11 +30,11 @@ none_before_more t e es n h was =
     rw (take_more_set es n e, push, front) (le-leb m e.lapse (omega arith))
 
 -- none lapses before the least one does
-none_before_first : (e : Entry) (es : List Entry) → All (λ x. lapses_first e x ≡ true) es → none_before e.lapse es ≡ true
+none_before_first : (e : Entry) (es : List Entry) → AllByRecursion (λ x. lapses_first e x ≡ true) es → none_before e.lapse es ≡ true
 none_before_first e [] all = refl
-none_before_first e (x ∷ es) all =
-    let more = none_before_first e es (All-tail (λ x. lapses_first e x ≡ true) x es all) in
-    let le = first_lapses e x (All-head (λ x. lapses_first e x ≡ true) x es all) in
+none_before_first e (x ∷ es) (goes, all) =
+    let more = none_before_first e es all in
+    let le = first_lapses e x goes in
     grind (arith, nat_tests)
 
 pub none_before_least : (least : Option Entry) (t : ℕ) (es : List Entry) → least ≡ first (queue lapses_first es) → IfSome least (λ e. t ≡ e.lapse) → none_before t es ≡ true
@@ -48,37 +46,18 @@ pub purged_none : (clock t : ℕ) (es : List Entry) → clock < t → none_befor
 purged_none clock t [] lt h = refl
 purged_none clock t (e ∷ es) lt h = let more = purged_none clock t es lt in grind (arith, nat_tests)
 
--- what the ledger's ghost fields say
-pub record Sound (t : ℕ) (c : Calendar) (es : List Entry) : Type 0 where
-  pub long : length es ≡ ledger_limit
-  pub within : c.count ≤ ledger_limit
-  pub later : none_before t (take c.count es) ≡ true
-
 -- one more is put
-pub put_one : (t m : ℕ) (e : Entry) (c c' : Calendar) (es es' : List Entry) → Sound t c es → c.count < length es → m ≡ min t e.lapse → c' ≡ put_calendar c es → es' ≡ put_places e c es → Sound m c' es'
+pub put_one : (t m : ℕ) (e : Entry) (c c' : Calendar) (es es' : List Entry) → none_before t (take c.count es) ≡ true → c.count < length es → m ≡ min t e.lapse → c' ≡ put_calendar c es → es' ≡ put_places e c es → none_before m (take c'.count es') ≡ true
 put_one t m e c c' es es' was room least next put =
     let roomy = lt-ltb c.count (length es) room in
     let count : c' ≡ counting (c.count + 1) = next ∙ cond-true _ _ _ roomy in
     let places : es' ≡ set es c.count e = put ∙ cond-true _ _ _ roomy in
-    rw (least, count, places) (record {
-      long = length-set es c.count e ∙ was.long;
-      within = omega arith;
-      later = none_before_more t e es c.count room was.later;
-    })
-
--- a removal never raises the count
-pub less_count : (r : Option Entry) (c c' : Calendar) (es : List Entry) → c' ≡ less r c es → c'.count ≤ c.count
-less_count None c c' es is = rw is (omega arith)
-less_count (Some e) c c' es is = rw is (omega arith)
+    rw (least, count, places) (none_before_more t e es c.count room was)
 
 module _ (clock : ℕ) (start es : List Entry) (was : SameEntries (purged clock es) (purged clock start)) where
   -- the least stays: all do
   pub least_stays : (e : Entry) → Some e ≡ first (queue lapses_first es) → clock < e.lapse → SameEntries es (purged clock start)
   least_stays e is lt = ap (queue lapses_first) (sym (purged_none clock e.lapse es lt (none_before_least (Some e) e.lapse es is refl))) ∙ was
-
-  -- none is left
-  pub least_none : None ≡ first (queue lapses_first es) → SameEntries es (purged clock start)
-  least_none is = let empty = first_none order es (sym is) in rw empty (rw empty at was)
 
   -- the least goes
   pub least_goes : (e : Entry) (es' : List Entry) → Some e ≡ first (queue lapses_first es) → e.lapse ≤ clock → queue lapses_first es' ≡ after (queue lapses_first es) → SameEntries (purged clock es') (purged clock start)

@@ -4,7 +4,7 @@ use borrow.Author.Count.{below_more}
 use Rattle.std.specs.Prelude.{IsTrue}
 use Rattle.std.specs.Option.{option_map}
 use Rattle.policy.specs.Choices.{chosen}
-use Rattle.policy.specs.Orders.{Order}
+use Rattle.policy.specs.Orders.{StrictWeakOrder}
 use Rattle.policy.specs.Chosen.{Preferred, Among, Stands, stands}
 
 module _ (prefers : ℕ → ℕ → Bool) (rooms : List ℕ) (parts : ℕ) where
@@ -31,11 +31,11 @@ module _ (prefers : ℕ → ℕ → Bool) (rooms : List ℕ) (parts : ℕ) where
   one (Some core) (Some other) s t =
       ap Some (omega (arith, not_two (length rooms) core other s t, not_two (length rooms) other core t s))
 
-  pub named : Order prefers → (held : Option (ℕ × ℕ)) → Held (length rooms) held → option_map (λ h. h.0) held ≡ chosen prefers rooms parts
+  pub named : StrictWeakOrder prefers → (held : Option (ℕ × ℕ)) → Held (length rooms) held → option_map (λ h. h.0) held ≡ chosen prefers rooms parts
   named order None h = one None (chosen prefers rooms parts) h (stands prefers order rooms parts)
   named order (Some (core, room)) h = one (Some core) (chosen prefers rooms parts) h.1 (stands prefers order rooms parts)
 
-  module _ (order : Order prefers) (n : ℕ) where
+  module _ (order : StrictWeakOrder prefers) (n : ℕ) where
     -- a core with too little room
     pub too_small : (held : Option (ℕ × ℕ)) → Held n held → get_or rooms n 0 < parts → Held (n + 1) held
     too_small None h low = below_more (λ k. get_or rooms k 0 < parts) n h low
@@ -57,7 +57,7 @@ module _ (prefers : ℕ → ℕ → Bool) (rooms : List ℕ) (parts : ℕ) where
         exists = omega arith;
         room = high;
         unbeaten =
-            below_more (Loses n) n (λ k lt suffices. let low = h k lt in absurd (omega arith)) (λ _. order.never_itself (get_or rooms n 0));
+            below_more (Loses n) n (λ k lt suffices. let low = h k lt in absurd (omega arith)) (λ _. order.irreflexive (get_or rooms n 0));
         tie = λ k lt suffices. let low = h k lt in absurd (omega arith);
       },
     )
@@ -73,10 +73,10 @@ module _ (prefers : ℕ → ℕ → Bool) (rooms : List ℕ) (parts : ℕ) where
             room = high;
             unbeaten =
                 below_more (Loses n) n
-                (λ k lt suffices. order.chain (get_or rooms k 0) best (get_or rooms n 0) (h.1.unbeaten k lt suffices) (order.one_way (get_or rooms n 0) best over))
-                (λ _. order.never_itself (get_or rooms n 0));
+                (λ k lt suffices. order.negatively_transitive (get_or rooms k 0) best (get_or rooms n 0) (h.1.unbeaten k lt suffices) (order.asymmetric (get_or rooms n 0) best over))
+                (λ _. order.irreflexive (get_or rooms n 0));
             tie = λ k lt suffices.
-                let under = order.chain (get_or rooms n 0) (get_or rooms k 0) best in
+                let under = order.negatively_transitive (get_or rooms n 0) (get_or rooms k 0) best in
                 let lost = h.1.unbeaten k lt suffices in
                 grind arith;
           },

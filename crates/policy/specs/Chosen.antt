@@ -5,24 +5,24 @@ use Rattle.std.proofs.lemmas.Bool.Decides.{nat_tests}
 use Rattle.policy.specs.Choices.{prefers_none, prefers_more, prefers_less, lowest, chosen}
 use Rattle.policy.specs.Laws.{Short, Lawful}
 use Rattle.policy.specs.Pins.{LowestThatSuffices, MostRoom, LeastRoom}
-use Rattle.policy.specs.Orders.{Order}
+use Rattle.policy.specs.Orders.{StrictWeakOrder}
 
--- ---- the three preferences are orders
-pub none_order : Order prefers_none
-none_order = record { never_itself = λ x. refl; one_way = λ x y h. refl; chain = λ x y z h k. refl }
+-- ---- the three preferences are strict weak orders
+pub none_order : StrictWeakOrder prefers_none
+none_order = record { irreflexive = λ x. refl; asymmetric = λ x y h. refl; negatively_transitive = λ x y z h k. refl }
 
-pub more_order : Order prefers_more
+pub more_order : StrictWeakOrder prefers_more
 more_order = record {
-  never_itself = λ x. grind (arith, nat_tests);
-  one_way = λ x y h. grind (arith, nat_tests);
-  chain = λ x y z h k. grind (arith, nat_tests);
+  irreflexive = λ x. grind (arith, nat_tests);
+  asymmetric = λ x y h. grind (arith, nat_tests);
+  negatively_transitive = λ x y z h k. grind (arith, nat_tests);
 }
 
-pub less_order : Order prefers_less
+pub less_order : StrictWeakOrder prefers_less
 less_order = record {
-  never_itself = λ x. grind (arith, nat_tests);
-  one_way = λ x y h. grind (arith, nat_tests);
-  chain = λ x y z h k. grind (arith, nat_tests);
+  irreflexive = λ x. grind (arith, nat_tests);
+  asymmetric = λ x y h. grind (arith, nat_tests);
+  negatively_transitive = λ x y z h k. grind (arith, nat_tests);
 }
 
 -- ---- what stands of the core that is named
@@ -41,24 +41,24 @@ Among prefers rooms parts n (Some core) = Preferred prefers rooms parts n core
 abbrev pub Stands : (ℕ → ℕ → Bool) → List ℕ → ℕ → Option ℕ → Type 0
 Stands prefers rooms parts named = Among prefers rooms parts (length rooms) named
 
-module _ (prefers : ℕ → ℕ → Bool) (order : Order prefers) (parts room : ℕ) (above : List ℕ) where
+module _ (prefers : ℕ → ℕ → Bool) (order : StrictWeakOrder prefers) (parts room : ℕ) (above : List ℕ) where
   still_short : room < parts → Short above parts → Short (room ∷ above) parts
   still_short low short zero h = low
   still_short low short (suc k) h = short k (le_of_suc-le-suc h)
 
   alone : Short above parts → (other : ℕ) → other < suc (length above) → parts ≤ slice_index (room ∷ above) other → prefers (slice_index (room ∷ above) other) room ≡ false
-  alone short zero h suffices = order.never_itself room
+  alone short zero h suffices = order.irreflexive room
   alone short (suc k) h suffices = let low = short k (le_of_suc-le-suc h) in absurd (omega arith)
 
   over : (core : ℕ) → Preferred prefers above parts (length above) core → prefers (slice_index above core) room ≡ false
       → (other : ℕ) → other < suc (length above) → parts ≤ slice_index (room ∷ above) other → prefers (slice_index (room ∷ above) other) room ≡ false
-  over core best free zero h suffices = order.never_itself room
+  over core best free zero h suffices = order.irreflexive room
   over core best free (suc k) h suffices =
-      order.chain (slice_index above k) (slice_index above core) room (best.unbeaten k (le_of_suc-le-suc h) suffices) free
+      order.negatively_transitive (slice_index above k) (slice_index above core) room (best.unbeaten k (le_of_suc-le-suc h) suffices) free
 
   under : (core : ℕ) → Preferred prefers above parts (length above) core → (parts ≤ room → prefers (slice_index above core) room ≡ true)
       → (other : ℕ) → other < suc (length above) → parts ≤ slice_index (room ∷ above) other → prefers (slice_index (room ∷ above) other) (slice_index above core) ≡ false
-  under core best beaten zero h suffices = order.one_way (slice_index above core) room (beaten suffices)
+  under core best beaten zero h suffices = order.asymmetric (slice_index above core) room (beaten suffices)
   under core best beaten (suc k) h suffices = best.unbeaten k (le_of_suc-le-suc h) suffices
 
   before : (core : ℕ) → Preferred prefers above parts (length above) core → (parts ≤ room → prefers (slice_index above core) room ≡ true)
@@ -96,12 +96,12 @@ module _ (prefers : ℕ → ℕ → Bool) (order : Order prefers) (parts room : 
   lowest_stands None short = after_none (nat_le parts room && true) refl short
   lowest_stands (Some core) best = after_some core (nat_le parts room && not (prefers (slice_index above core) room)) refl best
 
-pub stands : (prefers : ℕ → ℕ → Bool) → Order prefers → (rooms : List ℕ) (parts : ℕ) → Stands prefers rooms parts (chosen prefers rooms parts)
+pub stands : (prefers : ℕ → ℕ → Bool) → StrictWeakOrder prefers → (rooms : List ℕ) (parts : ℕ) → Stands prefers rooms parts (chosen prefers rooms parts)
 stands prefers order [] parts = λ core h. absurd (not-suc-le-zero h)
 stands prefers order (room ∷ above) parts = lowest_stands prefers order parts room above (chosen prefers above parts) (stands prefers order above parts)
 
 -- ---- the laws
-module _ (prefers : ℕ → ℕ → Bool) (order : Order prefers) (rooms : List ℕ) (parts : ℕ) where
+module _ (prefers : ℕ → ℕ → Bool) (order : StrictWeakOrder prefers) (rooms : List ℕ) (parts : ℕ) where
   at : (named : Option ℕ) → chosen prefers rooms parts ≡ named → Stands prefers rooms parts named
   at named e = rw e at (stands prefers order rooms parts)
 
@@ -112,7 +112,7 @@ module _ (prefers : ℕ → ℕ → Bool) (order : Order prefers) (rooms : List 
       let high = best.room in
       absurd (omega arith)
 
-pub lawful : (prefers : ℕ → ℕ → Bool) → Order prefers → Lawful (chosen prefers)
+pub lawful : (prefers : ℕ → ℕ → Bool) → StrictWeakOrder prefers → Lawful (chosen prefers)
 lawful prefers order = record {
   none = λ rooms parts. at prefers order rooms parts None;
   short = λ rooms parts. none_if_short prefers order rooms parts (chosen prefers rooms parts) (stands prefers order rooms parts);

@@ -16,9 +16,8 @@ returns-in_err-map_err-clause-refused c full =
     let none : nat_lt l.calendar.count (length l.places) ≡ false = grind (arith, nat_tests, length-take-le l.calendar.count l.places, l.long, l.within) in
     same_ledger l _ (c.put.ensures.next ∙ cond-false _ _ _ none) (c.put.ensures.written ∙ cond-false _ _ _ none) refl
 
-pub invariant_of-self-2 : goal.invariant_of-self-2
-invariant_of-self-2 c =
+pub invariant_of-self-2-clause-later : goal.invariant_of-self-2-clause-later
+invariant_of-self-2-clause-later c =
     let l = c.args.self.now in
-    let short : l.calendar.count < length l.places = let w = c.in_ok-map_err.was in grind (arith, nat_tests, c.map_err.ensures) in
-    let done = put_one l.earliest _ c.args.entry l.calendar c.put.new.self l.places c.put.new.places (record { long = l.long; within = l.within; later = l.later }) short (omega arith) c.put.ensures.next c.put.ensures.written in
-    record { long = done.long; within = done.within; later = done.later }
+    let room : l.calendar.count < length l.places = let done = c.in_ok-map_err.was in grind (arith, nat_tests, c.map_err.ensures) in
+    put_one l.earliest _ c.args.entry l.calendar c.put.new.self l.places c.put.new.places l.later room c.min-self.ensures c.put.ensures.next c.put.ensures.written
