@@ -49,7 +49,7 @@ field_cut bs o i w h = rw (lt-leb (i + w) (8 * length bs) h)
 pub field_fits : (bs : List ℕ) (o : Spot) (i w v : ℕ) → field_of bs o i w ≡ Ok v → i + w ≤ 8 * length bs
 field_fits bs o i w v h =
     ⊎_elim
-    (λ short. let z : ◌≡◌ {A = ℕ} 0 1 = cc (field_cut bs o i w short) in absurd (omega arith))
+    (λ short. cc (field_cut bs o i w short))
     (λ long. long)
     (cases_lt (8 * length bs) (i + w))
 
