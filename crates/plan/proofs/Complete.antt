@@ -9,7 +9,7 @@ use Rattle.plan.specs.Bits.{bit, bits, field_of, spot_of, given, named}
 use Rattle.fault.specs.Faults.{Fault, wrong}
 use Rattle.plan.specs.Records.{kind_of, lacks_a, lacks_b, proper, Unpacked, event_of, row_with}
 use Rattle.plan.proofs.Fields.{field_whole}
-use Rattle.plan.proofs.Named.{given_ok, given_err}
+use Rattle.plan.proofs.Given.{given_ok, given_err}
 
 bit_front : (bs : List ℕ) (i : ℕ) → i < 64 → bit (take 8 bs) i ≡ bit bs i
 unfolding bit
@@ -21,9 +21,9 @@ unfolding bits
 bits_front bs i zero h = refl
 bits_front bs i (suc w) h = rw (bits_front bs i w (omega arith), bit_front bs (i + w) (omega arith))
 
-module _ (bs : List ℕ) (o : Spot) {f : Figures} (long : 8 ≤ length bs) (u : Unpacked (take 8 bs) f []) where
-  field_is : (i w n : ℕ) → i + w ≤ 64 → n ≡ bits (take 8 bs) i w → field_of bs o i w ≡ Ok n
-  field_is i w n h e = field_whole bs o i w (omega arith) ∙ ap Ok (sym (e ∙ bits_front bs i w h))
+module _ (bs : List ℕ) (o : Spot) {f : Figures} {eight : List ℕ} (front : eight ≡ take 8 bs) (n : ℕ) (long : n + 8 ≡ length bs) (u : Unpacked eight f []) where
+  field_is : (i w v : ℕ) → i + w ≤ 64 → v ≡ bits eight i w → field_of bs o i w ≡ Ok v
+  field_is i w v h e = let s = rw front at e in field_whole bs o i w (omega arith) ∙ ap Ok (sym (s ∙ bits_front bs i w h))
 
   kind_is : field_of bs o 0 4 ≡ Ok f.kind
   kind_is = field_is 0 4 _ (omega arith) u.kind

@@ -23,8 +23,12 @@ unfolding bits
 bits_below bs i zero = omega arith
 bits_below bs i (suc w) = omega (arith, bits_below bs i w, bit_below bs (i + w), pow-add 2 w 1)
 
-pub bits_fit : (bs : List ℕ) (i w k : ℕ) → w ≤ k → bits bs i w < 2 ^ k
-bits_fit bs i w k h = omega (arith, bits_below bs i w, pow_mono h)
+-- One bit more of up to 32.
+pub bits_fit : (bs : List ℕ) (i w : ℕ) → w < 32 → bits bs i w * 2 + bit bs (i + w) < 2 ^ 32
+bits_fit bs i w h =
+    let l : w + 1 ≤ 32 = omega arith in
+    let more : 2 ^ (w + 1) ≤ 2 ^ 32 = pow_mono l in
+    omega (arith, bits_below bs i w, bit_below bs (i + w), pow-add 2 w 1)
 
 -- A field cut in two.
 pub bits_split : (bs : List ℕ) (i m n : ℕ) → bits bs i (m + n) ≡ bits bs i m * 2 ^ n + bits bs (i + m) n
@@ -49,7 +53,7 @@ field_cut bs o i w h = rw (lt-leb (i + w) (8 * length bs) h)
 pub field_fits : (bs : List ℕ) (o : Spot) (i w v : ℕ) → field_of bs o i w ≡ Ok v → i + w ≤ 8 * length bs
 field_fits bs o i w v h =
     ⊎_elim
-    (λ short. let z : ◌≡◌ {A = ℕ} 0 1 = cc (field_cut bs o i w short) in absurd (omega arith))
+    (λ short. cc (field_cut bs o i w short))
     (λ long. long)
     (cases_lt (8 * length bs) (i + w))
 

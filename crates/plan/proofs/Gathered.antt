@@ -10,8 +10,8 @@ use Rattle.plan.specs.Plans.{Reader, is_end, placed, step_of, after_spot, events
 use Rattle.plan.proofs.Fields.{field_cut}
 
 never_some : {A B : Type 0} (r : Result A Fault) (e : Fault) (x : B) → Ok x ≡ then r (λ _. Err e) → ⊥
-never_some (Ok y) e x h = let z : ◌≡◌ {A = ℕ} 0 1 = cc in omega arith
-never_some (Err y) e x h = let z : ◌≡◌ {A = ℕ} 0 1 = cc in omega arith
+never_some (Ok y) e x h = cc
+never_some (Err y) e x h = cc
 
 -- An event that was read has its eight bytes.
 event_long : (bs : List ℕ) (o : Spot) (e : Row) → Ok e ≡ event_of bs o → 8 ≤ length bs
@@ -23,11 +23,11 @@ event_long bs o e h =
 
 given_some : (b : Bool) (f : Fault) (x e : Row) → Ok e ≡ given b f (Ok x) → ◌≡◌ {A = Result Row Fault} (Ok e) (Ok x)
 given_some true f x e h = h
-given_some false f x e h = let z : ◌≡◌ {A = ℕ} 0 1 = cc in absurd (omega arith)
+given_some false f x e h = cc
 
 tested_some : (r : Result Row Fault) (t : Row → Bool) (f : Fault) (e : Row) → Ok e ≡ then r (λ x. given (t x) f (Ok x)) → Ok e ≡ r
 tested_some (Ok x) t f e h = given_some (t x) f x e h
-tested_some (Err x) t f e h = let z : ◌≡◌ {A = ℕ} 0 1 = cc in absurd (omega arith)
+tested_some (Err x) t f e h = cc
 
 step_long : (bs : List ℕ) (o : Spot) (e : Row) → Ok e ≡ step_of bs o → 8 ≤ length bs
 unfolding step_of
@@ -35,18 +35,13 @@ step_long bs o e h = event_long bs o e (tested_some (event_of bs o) (λ x. place
 
 -- What a reader's answer says of it.
 asked_some : (b : Bool) (r : Result Row Fault) (e : Row) → Ok (Some e) ≡ cond b (Ok None) (then r (λ x. Ok (Some x))) → (b ≡ false) × (Ok e ≡ r)
-asked_some true r e h = let z : ◌≡◌ {A = ℕ} 0 1 = cc in absurd (omega arith)
+asked_some true r e h = cc
 asked_some false (Ok x) e h = (refl, cc)
-asked_some false (Err x) e h = let z : ◌≡◌ {A = ℕ} 0 1 = cc in absurd (omega arith)
-
-asked_none : (b : Bool) (r : Result Row Fault) → Ok None ≡ cond b (Ok None) (then r (λ x. Ok (Some x))) → b ≡ true
-asked_none true r h = refl
-asked_none false (Ok x) h = let z : ◌≡◌ {A = ℕ} 0 1 = cc in absurd (omega arith)
-asked_none false (Err x) h = let z : ◌≡◌ {A = ℕ} 0 1 = cc in absurd (omega arith)
+asked_some false (Err x) e h = cc
 
 asked_fault : (b : Bool) (r : Result Row Fault) (e : Fault) → Err e ≡ cond b (Ok None) (then r (λ x. Ok (Some x))) → (b ≡ false) × (Err e ≡ r)
-asked_fault true r e h = let z : ◌≡◌ {A = ℕ} 0 1 = cc in absurd (omega arith)
-asked_fault false (Ok x) e h = let z : ◌≡◌ {A = ℕ} 0 1 = cc in absurd (omega arith)
+asked_fault true r e h = cc
+asked_fault false (Ok x) e h = cc
 asked_fault false (Err x) e h = (refl, cc)
 
 -- The reader has read k events.
@@ -67,18 +62,6 @@ left n s = cond s.ended (Ok []) (events_of n s.rest (next_spot s))
 pub record Sofar (whole : Result (List Row) Fault) (s : Reader) (read : List Row) : Type 0 where
   pub counts : Counts s (length read)
   pub goes : then (left (suc s.total - length read) s) (λ es. Ok (read ++ es)) ≡ whole
-
-then_all : (r : Result (List Row) Fault) → then r (λ es. Ok ([] ++ es)) ≡ r
-then_all (Ok x) = refl
-then_all (Err x) = refl
-
-pub sofar_none : (s : Reader) → Fresh s → Sofar (events_of (suc s.total) s.rest (first_spot s.first)) s []
-sofar_none s h =
-    let counts : Counts s 0 = omega (arith, h.whole) in
-    let byte : s.first + 8 * 0 ≡ s.first = omega arith in
-    let start : next_spot s ≡ first_spot s.first = spot_at s 0 counts ∙ ap first_spot byte in
-    let fuel : suc s.total - 0 ≡ suc s.total = omega arith in
-    record { counts = counts; goes = rw (h.opened, start, fuel) (then_all _) }
 
 module _ (bs : List ℕ) (o : Spot) (n : ℕ) where
   events_fault : (e : Fault) → Err e ≡ step_of bs o → events_of (suc n) bs o ≡ Err e
@@ -112,9 +95,6 @@ left_more s k n e h step =
     events_more _ _ n e step ∙ ap (λ o. cond (is_end e.kind) (Ok (e ∷ [])) (then (events_of n (drop 8 s.rest) o) (λ es. Ok (e ∷ es)))) on ∙ then_cond (is_end e.kind) _ e
 
 module _ {whole : Result (List Row) Fault} {s : Reader} {read : List Row} (h : Sofar whole s read) where
-  pub sofar_done : Ok None ≡ next_of s → Ok read ≡ whole
-  sofar_done a = let end = asked_none s.ended _ a in ap Ok (sym (append-nil read)) ∙ (rw end at h.goes)
-
   fuel : suc s.total - length read ≡ suc (s.total - length read)
   fuel = omega (arith, h.counts)
 

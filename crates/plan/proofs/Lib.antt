@@ -1,6 +1,6 @@
 pub mod Fields
 mod Bounds
-mod Named
+mod Given
 mod Complete
 mod Steps
 pub mod Limits

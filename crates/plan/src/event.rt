@@ -231,6 +231,7 @@ fn read_front(input: Input) -> Result<Front, RecordFault>
 }
 
 // The fault of a record that is cut short.
+#[tactic(auto, using(crate::proofs::Fields::field_cut))]
 fn cut(input: Input) -> RecordFault
     requires { length input.bytes.now < 8 }
     ensures { Err (record_told result) ≡ event_of input.entry.bytes.now input.entry.start }

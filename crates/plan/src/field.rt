@@ -23,6 +23,7 @@ pub(crate) struct Input<'a> {
     ghost low: { start.byte < 2 ^ 32 },
 }
 
+#[tactic(auto, unfolding(crate::specs::Bits::bit))]
 fn bit(bytes: &[u8], i: usize) -> u8
     requires { i < 8 * length bytes.now }
     ensures { result ≡ bit_of bytes.now i }
@@ -31,6 +32,7 @@ fn bit(bytes: &[u8], i: usize) -> u8
 }
 
 // The number that the bits of the field spell.
+#[tactic(auto, using(crate::proofs::Fields::bits_none, crate::proofs::Fields::bits_more, crate::proofs::Fields::bits_fit))]
 fn bits(bytes: &[u8], field: Field) -> u32
     requires { field.at + field.width ≤ 8 * length bytes.now }
     ensures { result ≡ bits_of bytes.now field.at field.width }
@@ -65,6 +67,7 @@ impl<'a> Input<'a> {
         }
     }
 
+    #[tactic(auto, using(crate::proofs::Fields::field_whole, crate::proofs::Fields::field_cut))]
     pub(crate) fn read(self, field: Field) -> Result<u32, BitFault>
         ensures { told bit_told result ≡ field_of self.entry.bytes.now self.entry.start field.at field.width }
     {

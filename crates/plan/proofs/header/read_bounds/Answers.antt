@@ -1,4 +1,4 @@
-use Rattle.std.proofs.Common.{◌≡◌, ℕ, ◌<◌, length, Ok, sym, ap, ◌∙◌, arith, length-take}
+use Rattle.std.proofs.Common.{ℕ, ◌<◌, length, Ok, sym, ap, ◌∙◌, arith, length-take}
 use Rattle.std.proofs.lemmas.List.{set-append_left, take-append-drop}
 use Rattle.std.proofs.lemmas.Result.{err_from_is_err_and}
 use Rattle.plan.proofs.Bounds.{bounds_none, bounds_more, bounds_stop}
@@ -16,8 +16,3 @@ pub loop-core-preserved : goal.loop-core-preserved
 loop-core-preserved c =
     let within : c.loop-core.core < length c.loop-core.bound-items = omega arith in
     bounds_more _ _ _ _ c.loop-core.invariant (sym c.in_ok-bound.ensures) ∙ ap Ok (set-append_left _ _ _ _ within)
-
-pub returns : goal.returns
-returns c =
-    let all : c.loop-core.core ≡ c.args.cores = omega (arith, length-take {A = ℕ}) in
-    rw c.count.ensures.value (sym (rw all at c.loop-core.invariant))

@@ -1,15 +1,12 @@
-use Rattle.std.proofs.Common.{◌≡◌, ◌<◌, map, length, Some, Ok, sym, refl, ap, ◌∙◌, subst}
+use Rattle.std.proofs.Common.{◌≡◌, ◌<◌, map, length, Some, Ok, sym, ap, ◌∙◌, subst}
 use Rattle.std.proofs.lemmas.List.{map_push}
 use Rattle.std.proofs.lemmas.Result.{err_from_is_err_and}
 use Rattle.std.specs.Option.{option_map}
 use Rattle.plan.specs.Plans.{reader_of, next_of}
 use Rattle.plan.specs.Records.{row_of}
-use Rattle.plan.proofs.Gathered.{sofar_at, sofar_none, sofar_done, sofar_fault, sofar_less, sofar_more}
+use Rattle.plan.proofs.Gathered.{sofar_at, sofar_fault, sofar_less, sofar_more}
 use Rattle.plan.proofs.reading.gather.Goals as goal
 use Rattle.plan.proofs.reading.gather.Goals.{In-Some}
-
-pub loop-events-init : goal.loop-events-init
-loop-events-init c = sofar_at refl (ap (map row_of) c.new-events.ensures.items) (sofar_none _ c.requires)
 
 pub returns-in_err-event : goal.returns-in_err-event
 returns-in_err-event c =
@@ -29,7 +26,3 @@ pub loop-events-preserved : goal.loop-events-preserved
 loop-events-preserved c =
     sofar_at c.next.ensures.after (ap (map row_of) c.in_ok-push.ensures.items ∙ map_push row_of _ _)
     (sofar_more c.loop-events.invariant _ (answered (goal.at.loop-events-preserved c).In-Some))
-
-pub returns : goal.returns
-returns c =
-    sofar_done c.loop-events.invariant (ap (λ o. Ok (option_map row_of o)) (sym c.in_default.is) ∙ c.in_ok-event.ensures.answer)
