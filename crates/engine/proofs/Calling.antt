@@ -18,7 +18,7 @@ use Rattle.table.proofs.Picking.{length_picks}
 use Rattle.engine.specs.declared.answers.Round.{Round}
 use Rattle.engine.specs.Answers.{answer_by}
 use Rattle.engine.specs.Names.{eight_names}
-use Rattle.engine.specs.Shown.{Same, Performed}
+use Rattle.engine.specs.Shown.{Performed}
 use Rattle.engine.specs.Driving.{trying}
 use Rattle.engine.specs.Along.{InHand, Drives}
 use Rattle.engine.proofs.Along.{replay_append}

@@ -9,13 +9,11 @@ use Rattle.rules.specs.declared.types.Answer.{Answer}
 use Rattle.rules.specs.Replay.{Told, is_accepted, accepts, after, replay}
 use Rattle.rules.proofs.Counts.{after_append}
 use Rattle.rules.proofs.Steps.{Step as Taken, deals, by_step}
-use Rattle.engine.specs.declared.answers.Round.{Round}
 use Rattle.engine.specs.declared.runs.Runner.{Runner}
 use Rattle.engine.specs.declared.runs.Step.{Step}
-use Rattle.engine.specs.Shown.{Same}
 use Rattle.engine.specs.Engines.{setup, shown}
 use Rattle.engine.specs.Driving.{Course, arrived, stopped, once, trying, before, onward, rounds, round_on, own_call, stepping, course}
-use Rattle.engine.specs.Along.{InHand, Along, Drives}
+use Rattle.engine.specs.Along.{Along, Drives}
 use Rattle.engine.specs.Driven.{Drove}
 use Rattle.engine.proofs.Rounds.{settle_done}
 use Rattle.engine.proofs.Along.{replay_append, along_none, along_more}

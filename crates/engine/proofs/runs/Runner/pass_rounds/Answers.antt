@@ -1,4 +1,4 @@
-use Rattle.std.proofs.Common.{◌+◌, ap, ◌∙◌, arith, subst}
+use Rattle.std.proofs.Common.{◌+◌, arith}
 use Rattle.engine.proofs.Drives.{drove_err, rounds_none, rounds_step, rounds_last}
 use Rattle.engine.proofs.runs.Runner.pass_rounds.Goals as goal
 

@@ -1,6 +1,5 @@
-use Rattle.std.proofs.Common.{List, length, Option, ℕ, [], sym, ap, subst, ◌∙◌, append_assoc}
-use Rattle.rules.specs.Replay.{dealt}
-use Rattle.engine.specs.Engines.{setup, shown}
+use Rattle.std.proofs.Common.{length, sym, ap, subst, ◌∙◌, append_assoc}
+use Rattle.engine.specs.Engines.{shown}
 use Rattle.engine.proofs.Calling.{is_taken, names_of, unwrapped, names_none, taken, names_shown, call_drives}
 use Rattle.engine.proofs.runs.Runner.perform.Goals as goal
 
