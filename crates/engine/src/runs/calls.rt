@@ -81,12 +81,8 @@ impl<M: Measure, P: Policy> Runner<M, P> {
         if tick != self.engine.clock() {
             return Err(Refusal::WrongRound);
         }
-        let Some(round) = self.hand.take() else {
-            return Err(Refusal::WrongRound);
-        };
-        match self.engine.settle(round) {
-            Ok(clock) => Ok(clock),
-            Err(_) => unreachable(),
-        }
+        let round = self.hand.take().ok_or(Refusal::WrongRound)?;
+        // The round in hand is the one that is out.
+        Ok(self.engine.settle(round).unwrap())
     }
 }
