@@ -27,19 +27,6 @@ follows_refused i o n e = record {
   start = refl;
 }
 
-module _ (σ : System) (n : ℕ) (rest : Reservation → Outcome) where
-  -- A call on a live reservation is refused while a round is out,
-  pub on_live_out : σ.out ≡ true → on_live σ n rest ≡ refused RoundOut
-  on_live_out e = ap (λ b. check (not b) RoundOut (given_by (find n σ.live) NoReservation rest)) e
-
-  -- or where there is none of that number,
-  pub on_live_none : σ.out ≡ false → find n σ.live ≡ None → on_live σ n rest ≡ refused NoReservation
-  on_live_none e f = λ i. check (not (e i)) RoundOut (given_by (f i) NoReservation rest)
-
-  -- and else goes on with the one found.
-  pub on_live_found : (r : Reservation) → σ.out ≡ false → find n σ.live ≡ Some r → on_live σ n rest ≡ rest r
-  on_live_found r e f = λ i. check (not (e i)) RoundOut (given_by (f i) NoReservation rest)
-
 -- A refusal of the model, on figures that are as they were.
 pub follows_kept : (i i' : Inner) (o : Outcome) (n : Refusal) → o ≡ refused n → i' ≡ i → Follows i o (Refused n) i'
 follows_kept i i' o n e kept = subst (Follows i o (Refused n)) (sym kept) (follows_refused i o n e)

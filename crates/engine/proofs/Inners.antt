@@ -1,19 +1,15 @@
 -- The engine's figures are the same where their plain fields are: what a ghost field says has one proof at most.
-use Rattle.std.proofs.Common.{◌≡◌, ℕ, ◌+◌, ◌*◌, ◌/◌, ◌<◌, ◌≤◌, true, false, List, length, get_or, is_some, Some, None, Option, refl, arith}
+use Rattle.std.proofs.Common.{◌≡◌, ℕ, ◌≤◌, true, false, List, length, is_some, Some, None, Option, refl, arith}
 use mathlib.Core.Bool.{Bool-set}
 use mathlib.Core.HLevel.{is_prop→PathP}
 use native.Mathlib.Bridge.{le_prop}
 use Rattle.std.proofs.lemmas.Bool.Decides.{nat_tests}
-use Rattle.std.proofs.lemmas.List.{get_or-map}
 use Rattle.terms.specs.declared.refusals.Refusal.{Refusal}
 use Rattle.rules.specs.Setup.{making}
-use Rattle.rules.specs.Parts.{bound}
-use Rattle.rules.specs.System.{System}
-use Rattle.rules.proofs.Ticking.{bounds_high, figures_fit_lem}
 use Rattle.table.specs.View.{clock_of}
 use Rattle.engine.specs.declared.inner.Inner.{Inner}
 use Rattle.engine.specs.Limits.{fits_cores, going}
-use Rattle.engine.specs.View.{figures_of, bare, closed_by}
+use Rattle.engine.specs.View.{figures_of}
 
 pub inner_same : (i j : Inner) → i.figures ≡ j.figures → i.start ≡ j.start → i.table ≡ j.table → i.ledger ≡ j.ledger → i.given ≡ j.given → i.round ≡ j.round → i ≡ j
 inner_same i j figures start table ledger given round = λ k. record {
@@ -43,15 +39,3 @@ made_few figures start h = grind (arith, nat_tests)
 
 pub few : (i : Inner) → length (figures_of i) ≤ 8
 few i = made_few (figures_of i) i.start (was_made i)
-
--- The bound of a core by its figure.
-pub bound_at : (i : Inner) (whole c : ℕ) → c < length (figures_of i) → bound (bare whole i) c ≡ whole * get_or (figures_of i) c 0 / 1000
-bound_at i whole c h = get_or-map (λ b. whole * b / 1000) (figures_of i) c 0 0 h
-
--- A bound is at most the whole.
-pub bound_small : (i : Inner) (whole c : ℕ) → bound (bare whole i) c ≤ whole
-bound_small i whole c = bounds_high whole (figures_of i) c (figures_fit_lem (figures_of i) i.start (was_made i))
-
--- Where newcomers are not refused a number is left.
-pub number_left : (σ : System) → closed_by σ ≡ None → σ.given + 1 ≤ 65535
-number_left σ h = grind (arith, nat_tests)

@@ -117,12 +117,3 @@ tick_clock_lem t other = rw (ne_eqb _ _ other) refl
 
 pub tick_live_lem : (ns : List (Option ℕ)) (t : ℕ) (rs : List Reservation) → (t ≡ last_tick → ⊥) → tick_live ns t rs ≡ map (ticked_by ns (t + 1)) rs
 tick_live_lem ns t rs other = rw (ne_eqb _ _ other) refl
-
--- No core has a name where there are none.
-pub none_dropped : (n : ℕ) (ns : List (Option ℕ)) → all_none ns ≡ true → none_from n ns ≡ true
-none_dropped ℕ.zero ns h = h
-none_dropped (suc n) [] h = refl
-none_dropped (suc n) (x ∷ ns) h = none_dropped n ns (and_parts (not (is_some x)) (all_none ns) h).1
-
-pub none_named : (n : ℕ) → none_from n (None ∷ None ∷ None ∷ None ∷ None ∷ None ∷ None ∷ None ∷ []) ≡ true
-none_named n = none_dropped n (None ∷ None ∷ None ∷ None ∷ None ∷ None ∷ None ∷ None ∷ []) refl

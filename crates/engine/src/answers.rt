@@ -36,7 +36,7 @@ pub struct Unsettled {
 }
 
 // A making refused, with the measure and the policy handed back.
-#[derive(Debug, PartialEq, Eq)]
+#[derive(Debug, Drop, PartialEq, Eq)]
 pub struct Unmade<M, P> {
     pub refusal: Refusal,
     pub measure: M,

@@ -6,12 +6,13 @@ ghost use Rattle.engine.specs.Limits.{fits_cores, going};
 
 use arrayvec::ArrayVec;
 use ledger::Ledger;
+use rules::MOST_CORES;
 use table::{Picks, Table};
 
 // The figure B of each core, and whom each core is dealt to while a round is out.
 #[derive(Drop)]
 pub struct Inner {
-    figures: ArrayVec<u32, 8>,
+    figures: ArrayVec<u32, MOST_CORES>,
     start: u32,
     table: Table,
     ledger: Ledger,

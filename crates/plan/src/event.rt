@@ -44,7 +44,7 @@ impl Kind {
     fn lacks_a(self) -> bool
         ensures { result ≡ lacks_a self }
     {
-        matches!(self, Kind::End)
+        self.is_end()
     }
 
     fn lacks_b(self) -> bool

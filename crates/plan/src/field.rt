@@ -1,6 +1,7 @@
 // Fields of any width at any bit of a record.
 ghost use Rattle.std.specs.Prelude.{◌≡◌, ◌+◌, ◌*◌, ◌^◌, ◌<◌, ◌≤◌, Ok, length};
 ghost use Rattle.fault.specs.Faults.{told, bit_told, record_told, wrong};
+ghost use Rattle.plan.specs.Headers.{origin};
 ghost use Rattle.plan.specs.Bits.{bit as bit_of, bits as bits_of, field_of, spot_of, given};
 
 use fault::{BitFault, Flaw, RecordFault, Spot};
@@ -41,7 +42,18 @@ fn bits(bytes: &[u8], field: Field) -> u32
     value
 }
 
-impl Input<'_> {
+impl<'a> Input<'a> {
+    // The whole plan, from its header on, which is record 0.
+    pub(crate) fn first(bytes: &'a [u8]) -> Input<'a>
+        ensures bytes { result.bytes.now ≡ bytes.now }
+        ensures start { result.start ≡ origin }
+    {
+        Input {
+            bytes,
+            start: Spot { byte: 0, number: 0 },
+        }
+    }
+
     // Where the field that starts at bit i is.
     pub(crate) fn spot(self, i: usize) -> Spot
         requires { i ≤ 1000 }

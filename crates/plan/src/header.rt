@@ -6,7 +6,7 @@ ghost use Rattle.plan.specs.Headers.{marks_of, measure_of, policy_of, setup_of, 
 
 use crate::field::{Field, Input};
 use crate::unnamed::Unnamed;
-use fault::{Flaw, RecordFault, Spot};
+use fault::{Flaw, RecordFault};
 use std::marker::Model;
 
 #[derive(Clone, Copy, PartialEq, Eq, Debug)]
@@ -69,8 +69,6 @@ impl Header {
     }
 }
 
-const ORIGIN: Spot = Spot { byte: 0, number: 0 };
-
 // The fields of a header before its bounds.
 const MARK: Field = Field { at: 0, width: 12 };
 
@@ -127,12 +125,11 @@ impl Cores {
         }
     }
 
-    fn count(self) -> usize
+    fn count(self) -> u8
         ensures value { result ≡ self }
-        ensures some { 1 ≤ self }
-        ensures few { self ≤ 8 }
+        ensures few { result ≤ 8 }
     {
-        self.0 as usize
+        self.0
     }
 
     // How many bytes the header has.
@@ -164,10 +161,7 @@ struct Setup {
 fn read_marks(bytes: &[u8]) -> Result<(), RecordFault>
     ensures { told record_told result ≡ marks_of bytes.now }
 {
-    let input = Input {
-        bytes,
-        start: ORIGIN,
-    };
+    let input = Input::first(bytes);
     let mark = input.read(MARK)?;
     input.check(mark == PLAN_MARK, Flaw::Mark, MARK)?;
     let edition = input.read(EDITION)?;
@@ -177,10 +171,7 @@ fn read_marks(bytes: &[u8]) -> Result<(), RecordFault>
 fn read_setup(bytes: &[u8]) -> Result<Setup, RecordFault>
     ensures { told record_told result ≡ setup_of bytes.now }
 {
-    let input = Input {
-        bytes,
-        start: ORIGIN,
-    };
+    let input = Input::first(bytes);
     let Some(cores) = Cores::new(input.read(CORES)?) else {
         return Err(input.flawed(Flaw::Range, CORES));
     };
@@ -199,10 +190,7 @@ fn read_setup(bytes: &[u8]) -> Result<Setup, RecordFault>
 fn read_start(bytes: &[u8]) -> Result<u32, RecordFault>
     ensures { told record_told result ≡ start_of bytes.now }
 {
-    let input = Input {
-        bytes,
-        start: ORIGIN,
-    };
+    let input = Input::first(bytes);
     let start = input.read(START)?;
     input.check(start <= LATEST_START, Flaw::Range, START)?;
     Ok(start)
@@ -212,10 +200,7 @@ fn read_bound(bytes: &[u8], core: usize) -> Result<u16, RecordFault>
     requires { core < 8 }
     ensures { told record_told result ≡ bound_of bytes.now core }
 {
-    let input = Input {
-        bytes,
-        start: ORIGIN,
-    };
+    let input = Input::first(bytes);
     let field = Field {
         at: bound_bit(core),
         width: 10,
@@ -229,8 +214,8 @@ fn read_bounds(bytes: &[u8], cores: Cores) -> Result<[u16; 8], RecordFault>
     ensures { told record_told result ≡ bounds_of bytes.now cores }
 {
     let mut bounds = [0; 8];
-    for core in 0..cores.count() {
-        bounds[core] = read_bound(bytes, core)?;
+    for (core, bound) in bounds[..cores.count() as usize].iter_mut().enumerate() {
+        *bound = read_bound(bytes, core)?;
     }
     Ok(bounds)
 }
@@ -239,10 +224,7 @@ fn read_filling(bytes: &[u8], cores: Cores) -> Result<(), RecordFault>
     ensures answer { told record_told result ≡ filling_of bytes.now cores }
     ensures room { OnOk result (header_length cores ≤ length bytes.now) }
 {
-    let input = Input {
-        bytes,
-        start: ORIGIN,
-    };
+    let input = Input::first(bytes);
     let filling = input.read(cores.filling())?;
     input.check(filling == 0, Flaw::Spare, cores.filling())
 }
@@ -262,7 +244,7 @@ pub(crate) fn read_fields(bytes: &[u8]) -> Result<(Header, usize), RecordFault>
     let bounds = read_bounds(bytes, cores)?;
     read_filling(bytes, cores)?;
     let header = Header {
-        cores: cores.count() as u8,
+        cores: cores.count(),
         measure,
         policy,
         start,

@@ -1,10 +1,10 @@
 -- That all reservations fit, under the changes of a table.
-use Rattle.std.proofs.Common.{◌≡◌, ℕ, zero, suc, ◌+◌, ◌<◌, ◌≤◌, true, List, [], ◌∷◌, ◌++◌, length, get_or, set, None, Option, refl, not-suc-le-zero, arith}
+use Rattle.std.proofs.Common.{◌≡◌, ℕ, zero, suc, ◌+◌, ◌<◌, ◌≤◌, true, List, [], ◌∷◌, ◌++◌, map, length, get_or, set, None, Option, refl, not-suc-le-zero, arith}
 use Rattle.std.specs.List.{remove}
 use Rattle.std.proofs.lemmas.Bool.{cond_both}
 use Rattle.std.proofs.lemmas.Bool.Decides.{nat_tests}
 use Rattle.rules.specs.declared.types.Reservation.{Reservation}
-use Rattle.rules.specs.Server.{is_resting, is_name, is_due, woken, refilled, charged_if}
+use Rattle.rules.specs.Server.{is_resting, is_name, is_due, on_core, woken, refilled, charged_if}
 use Rattle.table.specs.declared.server.Event.TheVariants.{Wake, Rest}
 use Rattle.table.specs.Calls.{newcomer, ticked}
 use Rattle.table.specs.Events.{after_event}
@@ -24,6 +24,9 @@ pub fit_at : (t : ℕ) (rs : List Reservation) (i : ℕ) (d : Reservation) → a
 fit_at t [] i d h lt = absurd (not-suc-le-zero lt)
 fit_at t (r ∷ rs) zero d h lt = grind arith
 fit_at t (r ∷ rs) (suc i) d h lt = let a : all_fit t rs ≡ true = grind arith in fit_at t rs i d a (omega arith)
+
+pub core_at : (t : ℕ) (rs : List Reservation) (i : ℕ) (d : Reservation) → all_fit t rs ≡ true → i < length rs → (get_or rs i d).core < 8
+core_at t rs i d h lt = fit_core t (get_or rs i d) (fit_at t rs i d h lt)
 
 pub all_set : (t : ℕ) (rs : List Reservation) (i : ℕ) (r : Reservation) → all_fit t rs ≡ true → fit t r ≡ true → all_fit t (set rs i r) ≡ true
 all_set t [] i r h f = refl
@@ -61,3 +64,13 @@ fit_rest t r h = cond_both (is_resting r.state) _ _ (λ x. fit t x ≡ true) (λ
 
 pub fit_newcomer : (t number q p parts core : ℕ) → 1 ≤ q → q ≤ p → p ≤ 1000000 → core < 8 → fit t (newcomer t number q p parts core) ≡ true
 fit_newcomer t number q p parts core low high longest lt = grind (arith, nat_tests)
+
+pub all_ticked : (names : List (Option ℕ)) (t : ℕ) (rs : List Reservation) → all_fit t rs ≡ true → all_fit (t + 1) (map (ticked names (t + 1)) rs) ≡ true
+all_ticked names t [] h = refl
+all_ticked names t (r ∷ rs) h =
+    let a : fit t r ≡ true = grind arith in
+    let b : all_fit t rs ≡ true = grind arith in
+    rw (fit_ticked names t r a, all_ticked names t rs b) refl
+
+pub fit_moved : (t : ℕ) (rs : List Reservation) (i : ℕ) (d : Reservation) (core : ℕ) → all_fit t rs ≡ true → i < length rs → core < 8 → fit t (on_core (get_or rs i d) core) ≡ true
+fit_moved t rs i d core h within lt = let a = fit_at t rs i d h within in grind (arith, nat_tests)

@@ -2,9 +2,7 @@ pub mod Waiting
 pub mod Ties
 pub mod Fits
 pub mod Search
-pub mod Upkeep
-pub mod Turned
-pub mod Tables
-pub mod Picking
+pub mod Events
 pub mod Sums
-pub mod Passing
+pub mod Picking
+pub mod Turns

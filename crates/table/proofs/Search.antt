@@ -1,43 +1,79 @@
--- The first reservation with a number, where those before it have others.
-use Rattle.std.proofs.Common.{◌≡◌, ℕ, suc, ◌<◌, List, [], ◌∷◌, ◌++◌, length, get_or, take, drop, set, Some, None, sym, refl, ap, ◌∙◌, arith}
-use Rattle.std.specs.List.{remove}
-use Rattle.std.proofs.lemmas.List.{set-get_or, set_split}
+-- The first reservation with a number, by its place.
+use Rattle.std.proofs.Common.{◌≡◌, ℕ, zero, suc, ◌<◌, ◌≤◌, Bool, cond, eqb, List, [], ◌∷◌, length, get_or, set, Some, None, slice_get, Ok, Err, sym, refl, ap, ◌∙◌, inl, inr, not-suc-le-zero, arith}
+use Rattle.std.specs.List.{find as first_where, position, position_or_len, remove}
+use Rattle.std.specs.Option.{ok_or}
+use Rattle.std.proofs.lemmas.Bool.{cases_lt, cond-true, cond-false, lt-ltb, le-ltb}
 use Rattle.std.proofs.lemmas.Bool.Decides.{nat_tests}
+use Rattle.std.proofs.lemmas.List.Folds.{find_at}
+use Rattle.std.proofs.lemmas.Option.{slice_get-get_or, slice_get_past}
+use Rattle.terms.specs.declared.refusals.Refusal.{Refusal}
+use Rattle.terms.specs.declared.refusals.Refusal.TheVariants.{NoReservation}
 use Rattle.rules.specs.declared.types.Reservation.{Reservation}
 use Rattle.rules.specs.Lists.{find, change, without}
 
 module _ (n : ℕ) where
-  -- one more that is another
-  pub find_push : (xs : List Reservation) (y : Reservation) → find n xs ≡ None → (y.number ≡ n → ⊥) → find n (xs ++ y ∷ []) ≡ None
-  find_push [] y none other = grind (arith, nat_tests)
-  find_push (x ∷ xs) y none other = let h = find_push xs y in grind (arith, nat_tests)
+  abbrev named : Reservation → Bool
+  named r = eqb r.number n
 
-  pub without_none : (xs : List Reservation) → find n xs ≡ None → without n xs ≡ xs
+  pub find_is : (rs : List Reservation) → first_where named rs ≡ find n rs
+  find_is [] = refl
+  find_is (r ∷ rs) = ap (λ o. cond (named r) (Some r) o) (find_is rs)
+
+  change_first : (x : Reservation) (rs : List Reservation) (i : ℕ) → i ≡ position_or_len named rs → i < length rs → change n x rs ≡ set rs i x
+  change_first x [] i is within = refl
+  change_first x (r ∷ rs) zero is within = grind (arith, nat_tests)
+  change_first x (r ∷ rs) (suc i) is within = let h = change_first x rs i in grind (arith, nat_tests)
+
+  without_first : (rs : List Reservation) (i : ℕ) → i ≡ position_or_len named rs → i < length rs → without n rs ≡ remove rs i
+  without_first [] i is within = absurd (not-suc-le-zero within)
+  without_first (r ∷ rs) zero is within = grind (arith, nat_tests)
+  without_first (r ∷ rs) (suc i) is within = let h = without_first rs i in grind (arith, nat_tests)
+
+  without_none : (rs : List Reservation) → length rs ≤ position_or_len named rs → without n rs ≡ rs
   without_none [] none = refl
-  without_none (x ∷ xs) none = let h = without_none xs in grind (arith, nat_tests)
+  without_none (r ∷ rs) none = let h = without_none rs in grind (arith, nat_tests)
 
-  find_middle : (xs : List Reservation) (y : Reservation) (ys : List Reservation) → find n xs ≡ None → y.number ≡ n → find n (xs ++ y ∷ ys) ≡ Some y
-  find_middle [] y ys none is = grind (arith, nat_tests)
-  find_middle (x ∷ xs) y ys none is = let h = find_middle xs y ys in grind (arith, nat_tests)
+  -- the reservation n is at place i
+  pub record At (i : ℕ) (rs : List Reservation) : Type 0 where
+    pub within : i < length rs
+    pub found : (d : Reservation) → find n rs ≡ Some (get_or rs i d)
+    pub changes : (x : Reservation) → change n x rs ≡ set rs i x
+    pub removes : without n rs ≡ remove rs i
 
-  change_middle : (z : Reservation) (xs : List Reservation) (y : Reservation) (ys : List Reservation) → find n xs ≡ None → y.number ≡ n → change n z (xs ++ y ∷ ys) ≡ xs ++ z ∷ ys
-  change_middle z [] y ys none is = grind (arith, nat_tests)
-  change_middle z (x ∷ xs) y ys none is = let h = change_middle z xs y ys in grind (arith, nat_tests)
+  -- no reservation is n
+  pub record Missing (e : Refusal) (rs : List Reservation) : Type 0 where
+    pub why : e ≡ NoReservation
+    pub none : find n rs ≡ None
+    pub stays : without n rs ≡ rs
 
-  without_middle : (xs : List Reservation) (y : Reservation) (ys : List Reservation) → find n xs ≡ None → y.number ≡ n → without n (xs ++ y ∷ ys) ≡ xs ++ ys
-  without_middle [] y ys none is = grind (arith, nat_tests)
-  without_middle (x ∷ xs) y ys none is = let h = without_middle xs y ys in grind (arith, nat_tests)
+  found_at : (i : ℕ) (rs : List Reservation) → i ≡ position_or_len named rs → i < length rs → At i rs
+  found_at i rs is within = record {
+    within = within;
+    found = λ d. sym (find_is rs) ∙ find_at named rs ∙ ap (slice_get rs) (sym is) ∙ slice_get-get_or rs i d within;
+    changes = λ x. change_first x rs i is within;
+    removes = without_first rs i is within;
+  }
 
-  module _ (rs : List Reservation) (i : ℕ) (d : Reservation) (within : i < length rs) (none : find n (take i rs) ≡ None) (is : (get_or rs i d).number ≡ n) where
-    split : rs ≡ take i rs ++ get_or rs i d ∷ drop (suc i) rs
-    split = sym (set-get_or rs i d) ∙ set_split rs i (get_or rs i d) within
+  missing_at : (e : Refusal) (rs : List Reservation) → e ≡ NoReservation → length rs ≤ position_or_len named rs → Missing e rs
+  missing_at e rs why past = record {
+    why = why;
+    none = sym (find_is rs) ∙ find_at named rs ∙ slice_get_past rs (position_or_len named rs) past;
+    stays = without_none rs past;
+  }
 
-    pub find_at : find n rs ≡ Some (get_or rs i d)
-    find_at = ap (find n) split ∙ find_middle (take i rs) (get_or rs i d) (drop (suc i) rs) none is
+  place_within : (rs : List Reservation) → position_or_len named rs < length rs → ok_or (position named rs) NoReservation ≡ Ok (position_or_len named rs)
+  place_within rs lt =
+      ap (λ o. ok_or o NoReservation) (cond-true _ (Some (position_or_len named rs)) None (lt-ltb (position_or_len named rs) (length rs) lt))
 
-    pub change_at : (z : Reservation) → change n z rs ≡ set rs i z
-    change_at z =
-        ap (change n z) split ∙ change_middle z (take i rs) (get_or rs i d) (drop (suc i) rs) none is ∙ sym (set_split rs i z within)
+  no_place : (rs : List Reservation) → length rs ≤ position_or_len named rs → ok_or (position named rs) NoReservation ≡ Err NoReservation
+  no_place rs le =
+      ap (λ o. ok_or o NoReservation) (cond-false _ (Some (position_or_len named rs)) None (le-ltb (position_or_len named rs) (length rs) le))
 
-    pub without_at : without n rs ≡ remove rs i
-    without_at = ap (without n) split ∙ without_middle (take i rs) (get_or rs i d) (drop (suc i) rs) none is
+  -- what was answered where the reservation was looked for
+  pub found : (i : ℕ) (rs : List Reservation) → Ok i ≡ ok_or (position named rs) NoReservation → At i rs
+  found i rs is =
+      elim (cases_lt (position_or_len named rs) (length rs)) [ inl lt ↦ (let same : i ≡ position_or_len named rs = cc (place_within rs lt) in found_at i rs same (rw same lt)) | inr le ↦ absurd (cc (no_place rs le)) ]
+
+  pub missing : (e : Refusal) (rs : List Reservation) → Err e ≡ ok_or (position named rs) NoReservation → Missing e rs
+  missing e rs is =
+      elim (cases_lt (position_or_len named rs) (length rs)) [ inl lt ↦ absurd (cc (place_within rs lt)) | inr le ↦ (let same : e ≡ NoReservation = cc (no_place rs le) in missing_at e rs same le) ]

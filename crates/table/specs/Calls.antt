@@ -1,5 +1,6 @@
 -- What each call on a table answers, and the live reservations and the clock that it leaves.
 use Rattle.std.specs.Prelude.{ℕ, ◌+◌, ◌-◌, min, Bool, cond, ◌&&◌, ◌||◌, List, [], ◌∷◌, ◌++◌, map, length, replicate, Some, None, Ok, Err, Option, Result, ◌==◌, nat_le, nat_lt, slice_index_or}
+use Rattle.std.specs.Result.{result_and}
 use Rattle.terms.specs.declared.refusals.Refusal.{Refusal}
 use Rattle.terms.specs.declared.refusals.Refusal.TheVariants.{Start, NoCore, ClockEnd, NoReservation, TooMany, NotResting, Resting as AlreadyResting}
 use Rattle.rules.specs.declared.types.Reservation.{Reservation}
@@ -10,6 +11,8 @@ use Rattle.rules.specs.Setup.{last_tick}
 use Rattle.rules.specs.System.{live_limit}
 use Rattle.rules.specs.Server.{is_resting, is_name, is_due, woken, rested, on_core, charged_if, refilled}
 use Rattle.rules.specs.Dealing.{picks}
+use Rattle.table.specs.declared.server.Event.{Event}
+use Rattle.table.specs.Events.{verdict, after_event}
 
 -- A table starts at a tick of at most the last, with none live.
 abbrev pub opening : ℕ → Result (ℕ × List Reservation) Refusal
@@ -50,6 +53,14 @@ of_live (Some r) answer = answer r
 abbrev pub in_live : Option Reservation → List Reservation → (Reservation → List Reservation) → List Reservation
 in_live None rs next = rs
 in_live (Some r) rs next = next r
+
+-- An event on the reservation n tells what it is then, unless the event is refused.
+abbrev pub event_answer : Event → ℕ → ℕ → List Reservation → Result Reservation Refusal
+event_answer e n t rs = of_live (find n rs) λ r. result_and (verdict e r) (Ok (after_event e t r))
+
+-- The live reservations after an event on the reservation n.
+abbrev pub event_live : Event → ℕ → ℕ → List Reservation → List Reservation
+event_live e n t rs = in_live (find n rs) rs λ r. change n (after_event e t r) rs
 
 -- Wake tells the state and the deadline of one that rested.
 abbrev pub wake_answer : ℕ → ℕ → List Reservation → Result (State × ℕ) Refusal

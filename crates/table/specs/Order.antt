@@ -1,5 +1,5 @@
 -- The keys of reservations and their order.
-use Rattle.std.specs.Prelude.{Bool, true, false, cond, ◌&&◌, ◌||◌, Some, None, Option, ◌==◌, nat_le, nat_lt}
+use Rattle.std.specs.Prelude.{Bool, cond, ◌&&◌, ◌||◌, Some, None, Option, ◌==◌, nat_le, nat_lt}
 use Rattle.rules.specs.declared.types.Reservation.{Reservation}
 use Rattle.table.specs.declared.keys.Key.{Key}
 
@@ -15,10 +15,3 @@ no_later x y = nat_lt x.deadline y.deadline || (x.deadline == y.deadline && nat_
 abbrev pub ahead : Key → Option Key → Key
 ahead k None = k
 ahead k (Some y) = cond (no_later k y) k y
-
--- Both are the same key, or both are none.
-abbrev pub same_first : Option Key → Option Key → Bool
-same_first None None = true
-same_first None (Some y) = false
-same_first (Some x) None = false
-same_first (Some x) (Some y) = x.deadline == y.deadline && x.number == y.number

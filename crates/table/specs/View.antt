@@ -3,15 +3,14 @@ use Rattle.std.specs.Prelude.{ℕ, List, Ok, Err, Result}
 use Rattle.terms.specs.declared.refusals.Refusal.{Refusal}
 use Rattle.rules.specs.declared.types.Reservation.{Reservation}
 use Rattle.table.specs.declared.live.Table.{Table}
-use Rattle.table.specs.Sound.{live}
 
 -- The tick that the clock shows.
 abbrev pub clock_of : Table → ℕ
-clock_of t = t.inner.clock
+clock_of t = t.clock
 
 -- The live reservations in order.
 abbrev pub live_of : Table → List Reservation
-live_of t = live t.inner
+live_of t = t.rows.items
 
 -- The making of a table, with the table as what it shows.
 abbrev pub shown : Result Table Refusal → Result (ℕ × List Reservation) Refusal

@@ -1,24 +1,25 @@
 // A ready reservation's key, and one core's ready queue in places of its own.
-ghost use Rattle.std.specs.Prelude.{◌≡◌, true};
+ghost use Rattle.std.specs.Prelude.{◌≡◌};
+ghost use Rattle.std.specs.Coded.{Coded-set};
 ghost use Rattle.calendar.specs.Places.{held};
 ghost use Rattle.calendar.specs.Queues.{first, queue};
-ghost use Rattle.table.specs.Order.{key_of, no_later, same_first};
+ghost use Rattle.table.specs.Order.{key_of, no_later};
 ghost use Rattle.std.proofs.Common.{rules};
 
 use calendar::{Calendar, Order};
-use rules::Reservation;
+use rules::{LIVE_LIMIT, Reservation};
 
-// What ready reservations are ordered by.
-#[derive(Clone, Copy)]
+// What ready reservations are ordered by: the earlier deadline first, then the lower number.
+#[derive(Clone, Copy, PartialEq, Eq, PartialOrd, Ord)]
 pub struct Key {
     pub deadline: u32,
     pub number: u32,
 }
 
-impl Key {
-    pub fn of(row: &Reservation) -> Key
-        ensures { result ≡ key_of row.now }
-    {
+impl From<&Reservation> for Key {
+    ghost from_gives = { λ row key. key ≡ key_of row.now };
+
+    fn from(row: &Reservation) -> Key {
         Key {
             deadline: row.deadline,
             number: row.number,
@@ -26,15 +27,13 @@ impl Key {
     }
 }
 
-// The earlier deadline first, then the lower number.
 impl Order for Key {
     ghost before = { no_later };
 
     ghost total = { Prim.search rules };
 
     fn at_most(self, other: Key) -> bool {
-        self.deadline < other.deadline
-            || (self.deadline == other.deadline && self.number <= other.number)
+        self <= other
     }
 }
 
@@ -42,9 +41,9 @@ impl Order for Key {
 #[derive(Clone, Copy)]
 pub struct Queue {
     calendar: Calendar,
-    places: [Key; 64],
+    places: [Key; LIVE_LIMIT],
     least: Option<Key>,
-    ghost known: { same_first least (first (queue no_later (held calendar places))) ≡ true },
+    ghost known: { least ≡ first (queue no_later (held calendar places)) } by { Coded-set least-code least (first (queue no_later (held calendar places))) },
 }
 
 mod upkeep;

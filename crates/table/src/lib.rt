@@ -1,9 +1,9 @@
 // The live reservations with the clock that they run by, and each core's queue of those that are ready.
 #![tactic(auto)]
 
-mod inner;
 mod keys;
 mod live;
+mod passing;
 mod ready;
 mod server;
 

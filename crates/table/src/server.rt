@@ -2,17 +2,16 @@
 ghost use Rattle.std.specs.Prelude.{◌≡◌, ◌-◌, ◌≤◌, true};
 ghost use Rattle.rules.specs.Setup.{last_tick};
 ghost use Rattle.rules.specs.Server.{charged, filled_to, is_behind, is_name, is_ready, is_spent, keeps, lapse as lapse_tick, wanting, woken};
-ghost use Rattle.table.specs.Calls.{ticked};
 ghost use Rattle.table.specs.Events.{verdict, after_event};
 ghost use Rattle.table.specs.Rows.{fit};
 
-use rules::{Reservation, State};
+use rules::{MOST_CORES, Reservation, State};
 use terms::Refusal;
 
 // The name dealt for each of eight cores, or none.
 #[derive(Clone, Copy)]
 pub struct Picks {
-    pub names: [Option<u32>; 8],
+    pub names: [Option<u32>; MOST_CORES],
 }
 
 // What happens to a reservation.
@@ -36,45 +35,10 @@ pub fn change(row: &mut Reservation, event: Event, clock: u32) -> Result<(), Ref
         (State::Resting, Event::Rest) => return Err(Refusal::Resting),
         (_, Event::Rest) => row.state = State::Resting,
         (_, Event::Charge) => charge(row),
-        (State::Spent, Event::Refill) => {
-            if row.deadline == clock {
-                fill(row, clock + row.period);
-            }
-        }
+        (State::Spent, Event::Refill) if row.deadline == clock => fill(row, clock + row.period),
         (_, Event::Refill) => {}
     }
     Ok(())
-}
-
-// Whether a name dealt is this number.
-pub fn is_name(name: Option<u32>, number: u32) -> bool
-    ensures { result ≡ is_name number name }
-{
-    match name {
-        Some(dealt) => dealt == number,
-        None => false,
-    }
-}
-
-pub fn is_spent(state: State) -> bool
-    ensures { result ≡ is_spent state }
-{
-    matches!(state, State::Spent)
-}
-
-// Charges a row where it is the one named for its core, and then fills it where it is due.
-pub fn pass_tick(row: &mut Reservation, picks: &Picks, clock: u32)
-    requires low { 1 ≤ clock }
-    requires high { clock ≤ last_tick }
-    requires fits { fit (clock - 1) row.old ≡ true }
-    ensures { row.new ≡ ticked picks.now.names clock row.old }
-{
-    if let Some(number) = picks.names[row.core as usize] {
-        if number == row.number {
-            let _ = change(row, Event::Charge, clock);
-        }
-    }
-    let _ = change(row, Event::Refill, clock);
 }
 
 // Keeps budget and deadline where the budget left is below the reserved share of the time to the deadline, else fills it.
@@ -96,7 +60,7 @@ fn keeps(row: &Reservation, clock: u32) -> bool
     (row.left as u64 * row.period as u64) < share
 }
 
-fn charge(row: &mut Reservation)
+pub fn charge(row: &mut Reservation)
     requires { row.old.ran ≤ last_tick }
     ensures { row.new ≡ charged row.old }
 {
@@ -127,10 +91,7 @@ fn wanting(left: u32) -> State
 pub fn is_ready(row: &Reservation) -> bool
     ensures { result ≡ is_ready row.now.state }
 {
-    match row.state {
-        State::Ready => true,
-        State::Spent | State::Resting => false,
-    }
+    row.state == State::Ready
 }
 
 // The lapse tick of a reservation; with no budget, which terms never have, it is the deadline.
@@ -148,8 +109,5 @@ pub fn lapse(row: &Reservation) -> u32
 pub fn is_behind(row: &Reservation, clock: u32) -> bool
     ensures { result ≡ is_behind clock row.now }
 {
-    match row.state {
-        State::Ready => !keeps(row, clock),
-        State::Spent | State::Resting => false,
-    }
+    is_ready(row) && !keeps(row, clock)
 }

@@ -4,12 +4,9 @@ use std::test::Fail;
 use table::{Picks, Table, is_behind, lapse};
 use terms::{Refusal, Terms};
 
-// The number of a refusal, or 0.
-fn refusal<T: Drop>(answer: Result<T, Refusal>) -> u32 {
-    match answer {
-        Ok(_) => 0,
-        Err(refusal) => refusal.number(),
-    }
+// The number of the refusal, if one is answered.
+fn refusal<T: Drop>(answer: Result<T, Refusal>) -> Option<u32> {
+    answer.err().map(|refusal| refusal.number())
 }
 
 // Lets ticks pass, charging whom the table names for each.
@@ -34,14 +31,14 @@ fn sixty_four_are_live(rt: HostRuntime) -> Result<(), Fail> {
     let mut table = Table::new(7)?;
     let terms = Terms::new(1, 2)?;
     for number in 1..65 {
-        assert_eq!(rt; refusal(table.admit(number, terms, number, number % 8)), 0);
+        assert_eq!(rt; refusal(table.admit(number, terms, number, number % 8)), None);
     }
     assert_eq!(rt; table.len(), 64);
-    assert_eq!(rt; refusal(table.admit(65, terms, 1, 0)), 15);
-    assert_eq!(rt; refusal(table.admit(65, terms, 1, 8)), 6);
-    assert_eq!(rt; refusal(table.remove(33)), 0);
-    assert_eq!(rt; refusal(table.remove(33)), 14);
-    assert_eq!(rt; refusal(table.admit(65, terms, 1, 0)), 0);
+    assert_eq!(rt; refusal(table.admit(65, terms, 1, 0)), Some(15));
+    assert_eq!(rt; refusal(table.admit(65, terms, 1, 8)), Some(6));
+    assert_eq!(rt; refusal(table.remove(33)), None);
+    assert_eq!(rt; refusal(table.remove(33)), Some(14));
+    assert_eq!(rt; refusal(table.admit(65, terms, 1, 0)), None);
     assert_eq!(rt; table.len(), 64);
     // 8, 16, .. 64 and the newcomer
     assert_eq!(rt; table.live_parts(0), 289);
@@ -50,11 +47,11 @@ fn sixty_four_are_live(rt: HostRuntime) -> Result<(), Fail> {
 
 #[test]
 fn the_clock_ends(rt: HostRuntime) -> Result<(), Fail> {
-    assert_eq!(rt; refusal(Table::new(4_000_000_001)), 3);
+    assert_eq!(rt; refusal(Table::new(4_000_000_001)), Some(3));
     let mut table = Table::new(3_999_999_999)?;
     let none = Picks { names: [None; 8] };
     assert_eq!(rt; table.tick(&none)?, 4_000_000_000);
-    assert_eq!(rt; refusal(table.tick(&none)), 13);
+    assert_eq!(rt; refusal(table.tick(&none)), Some(13));
     assert_eq!(rt; table.clock(), 4_000_000_000);
     Ok(())
 }
@@ -68,11 +65,11 @@ fn wake_keeps_or_fills(rt: HostRuntime) -> Result<(), Fail> {
         let mut table = awake(5, 10)?;
         run(&mut table, served)?;
         assert_eq!(rt; table.rest(1)?, 5 - served.min(5));
-        assert_eq!(rt; refusal(table.rest(1)), 19);
+        assert_eq!(rt; refusal(table.rest(1)), Some(19));
         run(&mut table, tick.saturating_sub(served))?;
         let (_, until) = table.wake(1)?;
         assert_eq!(rt; until, deadline);
-        assert_eq!(rt; refusal(table.wake(1)), 18);
+        assert_eq!(rt; refusal(table.wake(1)), Some(18));
         let row = table.find(1).ok_or("not live")?;
         assert_eq!(rt; row.left, left);
         assert_eq!(rt; row.ran, served);
@@ -109,8 +106,8 @@ fn ties_go_by_number(rt: HostRuntime) -> Result<(), Fail> {
     table.wake(12)?;
     assert_eq!(rt; table.picks(8).names[2], Some(12));
     assert_eq!(rt; table.picks(2).names[2], None);
-    assert_eq!(rt; refusal(table.transfer(12, 8)), 6);
-    assert_eq!(rt; refusal(table.transfer(13, 5)), 14);
+    assert_eq!(rt; refusal(table.transfer(12, 8)), Some(6));
+    assert_eq!(rt; refusal(table.transfer(13, 5)), Some(14));
     table.transfer(12, 5)?;
     let picks = table.picks(8);
     assert_eq!(rt; picks.names[2], Some(4));

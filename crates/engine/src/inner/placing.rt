@@ -8,7 +8,7 @@ ghost use Rattle.engine.specs.View.{view, figures_of, bare, closed_by, Follows};
 use super::{Inner, Whole};
 use crate::answers::{Departure, Placement};
 use arrayvec::ArrayVec;
-use rules::{LAST_NUMBER, LIVE_LIMIT};
+use rules::{LAST_NUMBER, LIVE_LIMIT, MOST_CORES};
 use table::is_behind;
 use terms::{Refusal, Terms};
 
@@ -63,7 +63,7 @@ impl Inner {
     }
 
     // The rooms of the cores.
-    pub fn rooms(&self, whole: Whole) -> ArrayVec<u32, 8>
+    pub fn rooms(&self, whole: Whole) -> ArrayVec<u32, MOST_CORES>
         ensures { result.items ≡ rooms (bare whole.parts self.now) (view self.now) }
     {
         let mut rooms = ArrayVec::new();

@@ -7,12 +7,14 @@ ghost use Rattle.engine.specs.View.{view, figures_of, bare};
 ghost use Rattle.engine.specs.Names.{eight_names};
 
 use super::{Inner, Whole};
-use rules::Reservation;
+use rules::{MOST_CORES, Reservation};
 use table::Picks;
 use terms::Refusal;
 
 // No core is dealt to anyone.
-const NO_PICKS: Picks = Picks { names: [None; 8] };
+const NO_PICKS: Picks = Picks {
+    names: [None; MOST_CORES],
+};
 
 impl Inner {
     pub fn cores(&self) -> usize

@@ -5,12 +5,13 @@ ghost use Rattle.table.specs.Calls.{opening, newcomer, admit_answer, admit_live,
 ghost use Rattle.table.specs.View.{clock_of, live_of, shown};
 
 use super::Table;
-use crate::inner::Inner;
-use crate::server::{Event, Picks, change};
-use rules::{Reservation, State};
+use crate::keys::Queue;
+use crate::passing::Tick;
+use crate::ready::unfile;
+use crate::server::{Event, Picks};
+use arrayvec::ArrayVec;
+use rules::{LAST_TICK, MOST_CORES, Reservation, State};
 use terms::{Refusal, Terms};
-
-const LAST_TICK: u32 = 4_000_000_000;
 
 impl Table {
     // A table with none live, whose clock starts at this tick.
@@ -21,7 +22,9 @@ impl Table {
             return Err(Refusal::Start);
         }
         Ok(Table {
-            inner: Inner::new(start),
+            clock: start,
+            rows: ArrayVec::new(),
+            ready: [Queue::new(); MOST_CORES],
         })
     }
 
@@ -32,21 +35,20 @@ impl Table {
         ensures live { live_of self.new ≡ admit_live (newcomer (clock_of self.old) number terms.budget terms.period parts core) (live_of self.old) }
         ensures same { is_err result ≡ true → self.new ≡ self.old }
     {
-        if core >= 8 {
+        if core as usize >= MOST_CORES {
             return Err(Refusal::NoCore);
         }
-        if self.inner.count >= 64 {
+        if self.rows.is_full() {
             return Err(Refusal::TooMany);
         }
-        let clock = self.inner.clock;
-        self.inner.push(Reservation {
+        self.rows.push(Reservation {
             number,
             budget: terms.budget(),
             period: terms.period(),
             parts,
             core,
             left: 0,
-            deadline: clock,
+            deadline: self.clock,
             ran: 0,
             state: State::Resting,
         });
@@ -60,13 +62,7 @@ impl Table {
         ensures live { live_of self.new ≡ wake_live number (clock_of self.old) (live_of self.old) }
         ensures same { is_err result ≡ true → self.new ≡ self.old }
     {
-        let Some((place, mut row)) = self.inner.seek(number) else {
-            return Err(Refusal::NoReservation);
-        };
-        if let Err(refusal) = change(&mut row, Event::Wake, self.inner.clock) {
-            return Err(refusal);
-        }
-        self.inner.replace(place, row);
+        let row = self.apply(number, Event::Wake)?;
         Ok((row.state, row.deadline))
     }
 
@@ -77,13 +73,7 @@ impl Table {
         ensures live { live_of self.new ≡ rest_live number (live_of self.old) }
         ensures same { is_err result ≡ true → self.new ≡ self.old }
     {
-        let Some((place, mut row)) = self.inner.seek(number) else {
-            return Err(Refusal::NoReservation);
-        };
-        if let Err(refusal) = change(&mut row, Event::Rest, self.inner.clock) {
-            return Err(refusal);
-        }
-        self.inner.replace(place, row);
+        let row = self.apply(number, Event::Rest)?;
         Ok(row.left)
     }
 
@@ -94,10 +84,9 @@ impl Table {
         ensures live { live_of self.new ≡ without number (live_of self.old) }
         ensures same { is_err result ≡ true → self.new ≡ self.old }
     {
-        let Some((place, row)) = self.inner.seek(number) else {
-            return Err(Refusal::NoReservation);
-        };
-        self.inner.remove(place);
+        let place = self.seek(number)?;
+        let row = self.rows.remove(place);
+        unfile(&mut self.ready, &row);
         Ok(row)
     }
 
@@ -108,14 +97,13 @@ impl Table {
         ensures live { live_of self.new ≡ transfer_live number core (live_of self.old) }
         ensures same { is_err result ≡ true → self.new ≡ self.old }
     {
-        if core >= 8 {
+        if core as usize >= MOST_CORES {
             return Err(Refusal::NoCore);
         }
-        let Some((place, mut row)) = self.inner.seek(number) else {
-            return Err(Refusal::NoReservation);
-        };
+        let place = self.seek(number)?;
+        let mut row = self.rows[place];
         row.core = core;
-        self.inner.replace(place, row);
+        self.replace(place, row);
         Ok(())
     }
 
@@ -126,10 +114,15 @@ impl Table {
         ensures live { live_of self.new ≡ tick_live picks.now.names (clock_of self.old) (live_of self.old) }
         ensures same { is_err result ≡ true → self.new ≡ self.old }
     {
-        if self.inner.clock == LAST_TICK {
+        if self.clock == LAST_TICK {
             return Err(Refusal::ClockEnd);
         }
-        self.inner.tick(picks);
-        Ok(self.inner.clock)
+        self.clock += 1;
+        let tick = Tick {
+            picks,
+            clock: self.clock,
+        };
+        tick.pass_rows(&mut self.rows, &mut self.ready);
+        Ok(self.clock)
     }
 }

@@ -1,6 +1,8 @@
 // What can be asked of a table; a question changes nothing.
-ghost use Rattle.std.specs.Prelude.{◌≡◌, ◌≤◌, length};
+ghost use Rattle.std.specs.Prelude.{◌≡◌, ◌<◌, ◌≤◌, length};
 ghost use Rattle.std.specs.List.{slice_get};
+ghost use Rattle.std.specs.Option.{option_map};
+ghost use Rattle.rules.specs.Dealing.{pick};
 ghost use Rattle.rules.specs.Lists.{find};
 ghost use Rattle.rules.specs.Parts.{live_parts};
 ghost use Rattle.rules.specs.Setup.{last_tick};
@@ -11,13 +13,14 @@ ghost use Rattle.table.specs.View.{clock_of, live_of};
 use super::Table;
 use crate::server::Picks;
 use rules::Reservation;
+use std::array;
 
 impl Table {
     pub fn clock(&self) -> u32
         ensures answer { result ≡ clock_of self.now }
         ensures high { result ≤ last_tick }
     {
-        self.inner.clock
+        self.clock
     }
 
     // How many reservations are live.
@@ -25,48 +28,55 @@ impl Table {
         ensures answer { result ≡ length (live_of self.now) }
         ensures high { result ≤ live_limit }
     {
-        self.inner.count
+        self.rows.len()
     }
 
     // The live reservation with this number.
     pub fn find(&self, number: u32) -> Option<Reservation>
         ensures { result ≡ find number (live_of self.now) }
     {
-        match self.inner.seek(number) {
-            Some((_, row)) => Some(row),
-            None => None,
-        }
+        self.rows.iter().find(|row| row.number == number).copied()
     }
 
     // The live reservations in order.
     pub fn live(&self) -> &[Reservation]
         ensures { result.now ≡ live_of self.now }
     {
-        &self.inner.rows[..self.inner.count]
+        &self.rows
     }
 
     // The live reservation at this place.
     pub fn row(&self, index: usize) -> Option<Reservation>
         ensures { result ≡ slice_get (live_of self.now) index }
     {
-        if index < self.len() {
-            Some(self.inner.rows[index])
-        } else {
-            None
-        }
+        self.rows.get(index).copied()
     }
 
     // The parts of the live reservations on this core.
     pub fn live_parts(&self, core: u32) -> u64
         ensures { result ≡ live_parts core (live_of self.now) }
     {
-        self.inner.live_parts(core)
+        self.rows
+            .iter()
+            .filter(|row| row.core == core)
+            .map(|row| row.parts as u64)
+            .sum()
     }
 
     // Whom each of the first `cores` cores is dealt to, of eight at most.
     pub fn picks(&self, cores: usize) -> Picks
         ensures { result.names ≡ dealt cores (live_of self.now) }
     {
-        self.inner.picks(cores.min(8))
+        Picks {
+            names: array::from_fn(|core| { if core < cores { self.pick(core) } else { None } }),
+        }
+    }
+
+    // The number of the ready reservation on a core that goes first.
+    fn pick(&self, core: usize) -> Option<u32>
+        requires { core < 8 }
+        ensures { result ≡ option_map (λ r. r.number) (pick core (live_of self.now)) }
+    {
+        self.ready[core].least().map(|key| key.number)
     }
 }

@@ -30,7 +30,7 @@ invariant_of-self-2 c =
       made = i.made;
       numbered = i.numbered;
       named = dealt_fits (length (figures_of i)) (live_of i.table) (few i) c.picks.result names;
-      lasts = going_on (clock_of i.table) i.table.clocked (λ e. omega (arith, c.if-tick.false, c.clock-tick.ensures.answer, e));
+      lasts = going_on (clock_of i.table) (omega (arith, c.clock-tick.ensures.answer, c.clock-tick.ensures.high)) (λ e. omega (arith, c.if-tick.false, c.clock-tick.ensures.answer, e));
     }
 
 pub returns-clause-next : goal.returns-clause-next
