@@ -2,3 +2,4 @@ pub mod Told
 pub mod Idle
 pub mod Closing
 pub mod Playing
+pub mod Made

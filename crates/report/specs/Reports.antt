@@ -1,5 +1,5 @@
 -- The report of a plan: its fault alone, or what the rules answer to its events, and then its cores and its live reservations.
-use Rattle.std.specs.Prelude.{ℕ, min, Bool, true, false, cond, List, [], ◌∷◌, ◌++◌, map, length, take, Some, None, Ok, Err, Option, Result}
+use Rattle.std.specs.Prelude.{◌≡◌, ℕ, min, Bool, true, false, cond, List, [], ◌∷◌, ◌++◌, map, length, take, Some, None, Ok, Err, Option, Result}
 use Rattle.std.specs.List.{flat_map, range_with_len}
 use Rattle.terms.specs.declared.refusals.Refusal.{Refusal}
 use Rattle.measure.specs.Meanings.{rounded_whole, rounded, catalogue_whole, catalogue}
@@ -118,6 +118,11 @@ header_lines whole price choice h steps =
 abbrev pub content_lines : Contents → List (List ℕ)
 content_lines c =
     header_lines (whole_of c.header.measure) (price_of c.header.measure) (choice_of c.header.policy) c.header (map step_of c.events)
+
+-- The engine of a plan that is read is made.
+abbrev pub IsMade : Result Contents Fault → Type 0
+IsMade (Ok c) = making (figures_of c.header) c.header.start ≡ None
+IsMade (Err f) = Unit {0}
 
 -- The report of a plan: the fault's line alone, or the lines of its contents.
 abbrev pub lines_of : Result Contents Fault → List (List ℕ)

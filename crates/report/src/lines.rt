@@ -1,18 +1,19 @@
 // The lines of a report, in their order.
-ghost use Rattle.std.specs.Prelude.{◌≡◌, ◌<◌, ◌≤◌, ◌++◌, map, length, IfOk};
+ghost use Rattle.std.specs.Prelude.{◌≡◌, ◌<◌, ◌≤◌, ◌++◌, map, length, IfOk, OnOk};
 ghost use Rattle.rules.specs.Parts.{live_parts, departed_parts};
 ghost use Rattle.engine.specs.Engines.{setup, shown};
-ghost use Rattle.plan.specs.Plans.{contents_of};
+ghost use Rattle.plan.specs.Headers.{IsWithinLimits};
+ghost use Rattle.plan.specs.Plans.{contents_of, plan_of};
 ghost use Rattle.report.specs.declared.line.Line.TheVariants.{Core};
 ghost use Rattle.report.specs.Lines.{line_text};
-ghost use Rattle.report.specs.Reports.{choice_of, end_lines, core_lines, ran_line, header_lines, content_lines, report_of, step_of};
+ghost use Rattle.report.specs.Reports.{end_lines, core_lines, ran_line, step_of, header_lines, content_lines, IsMade, report_of};
 
 use crate::line::Line;
 use crate::notes::Notes;
 use crate::steps::{figures_of, steps_of};
-use engine::{Engine, Finish, Unmade, run};
+use engine::{Engine, Finish, run};
 use measure::{Catalogue, Measure, Rounded};
-use plan::{Header, MeasureKind, Plan, PlanError, PolicyKind, read_plan};
+use plan::{MeasureKind, Plan, PlanError, PolicyKind, read_plan};
 use policy::{BestFit, FirstFit, Policy, WorstFit};
 use std::alloc::{AllocError, Global};
 
@@ -60,68 +61,49 @@ fn play<M: Measure + Drop, P: Policy + Drop>(
     policy: P,
     plan: &Plan,
 ) -> Result<Vec<Line>, AllocError>
+    requires { IsWithinLimits plan.now.header }
     ensures { IfOk result (λ v. map line_text v.items ≡ header_lines (M.Measure.whole measure) (M.Measure.price measure) (P.Policy.choice policy) plan.now.header (map step_of (contents_of plan.now).events)) }
 {
     let figures = figures_of(heap, &plan.header)?;
     let steps = steps_of(heap, &plan.events)?;
     let mut notes = Notes::new(heap);
-    match run(
+    let Finish {
+        engine,
+        round,
+        complete,
+    } = run(
         measure,
         policy,
         &figures,
         plan.header.start,
         &steps,
         &mut notes,
-    ) {
-        Ok(
-            Finish {
-                engine,
-                round,
-                complete,
-            },
-        ) => {
-            // A plan's steps leave no round out.
-            let None = round else { unreachable() };
-            close(notes.lines?, &engine, complete)
-        }
-        Err(
-            Unmade {
-                refusal: _,
-                measure: _,
-                policy: _,
-            },
-        ) => Ok(Vec::new(heap)),
-    }
+    )
+    .unwrap();
+    // A plan's steps leave no round out.
+    let None = round else { unreachable() };
+    close(notes.lines?, &engine, complete)
 }
 
-// The same for the policy that the header names.
-fn play_policy<M: Measure + Drop>(
-    heap: Global,
-    measure: M,
-    plan: &Plan,
-) -> Result<Vec<Line>, AllocError>
-    ensures { IfOk result (λ v. map line_text v.items ≡ header_lines (M.Measure.whole measure) (M.Measure.price measure) (choice_of plan.now.header.policy) plan.now.header (map step_of (contents_of plan.now).events)) }
-{
-    match plan.header.policy {
-        PolicyKind::First => play(heap, measure, FirstFit, plan),
-        PolicyKind::Worst => play(heap, measure, WorstFit, plan),
-        PolicyKind::Best => play(heap, measure, BestFit, plan),
-    }
-}
-
-// The lines of a plan's contents.
+// The lines of a plan's contents, by the measure and the policy that its header names.
 fn play_plan(heap: Global, plan: &Plan) -> Result<Vec<Line>, AllocError>
+    requires { IsWithinLimits plan.now.header }
     ensures { IfOk result (λ v. map line_text v.items ≡ content_lines (contents_of plan.now)) }
 {
-    match plan.header.measure {
-        MeasureKind::Rounded => play_policy(heap, Rounded, plan),
-        MeasureKind::Catalogue => play_policy(heap, Catalogue, plan),
+    match (plan.header.measure, plan.header.policy) {
+        (MeasureKind::Rounded, PolicyKind::First) => play(heap, Rounded, FirstFit, plan),
+        (MeasureKind::Rounded, PolicyKind::Worst) => play(heap, Rounded, WorstFit, plan),
+        (MeasureKind::Rounded, PolicyKind::Best) => play(heap, Rounded, BestFit, plan),
+        (MeasureKind::Catalogue, PolicyKind::First) => play(heap, Catalogue, FirstFit, plan),
+        (MeasureKind::Catalogue, PolicyKind::Worst) => play(heap, Catalogue, WorstFit, plan),
+        (MeasureKind::Catalogue, PolicyKind::Best) => play(heap, Catalogue, BestFit, plan),
     }
 }
 
 // The report of a plan: its fault alone, or all its lines.
 pub fn report(heap: Global, bytes: &[u8]) -> Result<Vec<Line>, AllocError>
-    ensures { IfOk result (λ v. map line_text v.items ≡ report_of bytes.now) }
+    ensures lines { IfOk result (λ v. map line_text v.items ≡ report_of bytes.now) }
+    ensures made { OnOk result (IsMade (plan_of bytes.now)) }
 {
     match read_plan(heap, bytes) {
         Ok(plan) => play_plan(heap, &plan),

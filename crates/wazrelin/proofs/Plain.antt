@@ -8,11 +8,12 @@ use Rattle.std.specs.Fmt.{digits, digits_onto, digit_glyph}
 use Rattle.rules.specs.declared.types.State.{State}
 use Rattle.rules.specs.declared.types.Call.{Call}
 use Rattle.rules.specs.declared.types.Answer.{Answer}
+use Rattle.rules.specs.Words.{state_word, call_text, answer_text}
 use Rattle.fault.specs.declared.Layer.{Layer}
 use Rattle.fault.specs.Faults.{Fault, plan_told, fault_line, layer_word, cause_number}
 use Rattle.terms.specs.Numbers.{number}
 use Rattle.report.specs.declared.line.Line.{Line}
-use Rattle.report.specs.Lines.{line_text, state_word, call_text, answer_text}
+use Rattle.report.specs.Lines.{line_text}
 use Rattle.wazrelin.specs.Texts.{text_of}
 
 -- UTF-8 leaves these code points as they are.
