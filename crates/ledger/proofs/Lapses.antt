@@ -1,8 +1,9 @@
 -- The earliest tick, and what a purge takes and leaves.
 -- Assumes nothing.
 use Rattle.std.proofs.Common.{◌≡◌, ℕ, ◌+◌, ◌<◌, ◌≤◌, min, true, false, leb, List, [], ◌∷◌, length, take, set, Some, None, IfSome, Option, sym, refl, ap, ◌∙◌, arith}
-use Rattle.std.specs.List.{AllByRecursion}
+use Rattle.std.specs.List.{All}
 use Rattle.std.proofs.lemmas.List.{take_more_set}
+use Rattle.std.proofs.lemmas.List.Elements.{All-head, All-tail}
 use Rattle.std.proofs.lemmas.List.Recursion.{and_push}
 use Rattle.std.proofs.lemmas.Bool.{le-leb, lt-ltb, le-ltb, cond-true, cond-false}
 use Rattle.std.proofs.lemmas.Bool.Decides.{nat_tests}
@@ -30,11 +31,11 @@ none_before_more t e es n h was =
     rw (take_more_set es n e, push, front) (le-leb m e.lapse (omega arith))
 
 -- none lapses before the least one does
-none_before_first : (e : Entry) (es : List Entry) → AllByRecursion (λ x. lapses_first e x ≡ true) es → none_before e.lapse es ≡ true
+none_before_first : (e : Entry) (es : List Entry) → All (λ x. lapses_first e x ≡ true) es → none_before e.lapse es ≡ true
 none_before_first e [] all = refl
-none_before_first e (x ∷ es) (goes, all) =
-    let more = none_before_first e es all in
-    let le = first_lapses e x goes in
+none_before_first e (x ∷ es) all =
+    let more = none_before_first e es (All-tail (λ x. lapses_first e x ≡ true) x es all) in
+    let le = first_lapses e x (All-head (λ x. lapses_first e x ≡ true) x es all) in
     grind (arith, nat_tests)
 
 pub none_before_least : (least : Option Entry) (t : ℕ) (es : List Entry) → least ≡ first (queue lapses_first es) → IfSome least (λ e. t ≡ e.lapse) → none_before t es ≡ true
