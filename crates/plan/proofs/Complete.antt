@@ -1,29 +1,18 @@
 -- The event of a record that is there whole.
-use Rattle.std.proofs.Common.{◌≡◌, ℕ, ◌+◌, ◌/◌, ◌<◌, ◌≤◌, zero, suc, Bool, List, [], length, take, Ok, Err, Result, sym, ap, ◌∙◌, refl, arith}
-use Rattle.std.proofs.lemmas.List.{get_or-take}
+use Rattle.std.proofs.Common.{◌≡◌, ℕ, ◌+◌, ◌≤◌, Bool, List, take, Ok, Err, Result, sym, ap, ◌∙◌, arith}
 use Rattle.fault.specs.declared.Flaw.{Flaw}
 use Rattle.fault.specs.declared.Spot.{Spot}
 use Rattle.plan.specs.declared.event.Figures.{Figures}
 use Rattle.plan.specs.declared.event.Kind.{Kind}
-use Rattle.plan.specs.Bits.{bit, bits, field_of, spot_of, given, named}
+use Rattle.plan.specs.Bits.{bits, field_of, spot_of, given, named}
 use Rattle.fault.specs.Faults.{Fault, wrong}
 use Rattle.plan.specs.Records.{kind_of, lacks_a, lacks_b, proper, Unpacked, event_of, row_with}
 use Rattle.plan.proofs.Fields.{field_whole}
 use Rattle.plan.proofs.Given.{given_ok, given_err}
 
-bit_front : (bs : List ℕ) (i : ℕ) → i < 64 → bit (take 8 bs) i ≡ bit bs i
-unfolding bit
-bit_front bs i h = let e = get_or-take 8 bs (i / 8) 0 (omega arith) in rw e
-
--- Bits of the first eight bytes.
-bits_front : (bs : List ℕ) (i w : ℕ) → i + w ≤ 64 → bits (take 8 bs) i w ≡ bits bs i w
-unfolding bits
-bits_front bs i zero h = refl
-bits_front bs i (suc w) h = rw (bits_front bs i w (omega arith), bit_front bs (i + w) (omega arith))
-
-module _ (bs : List ℕ) (o : Spot) {f : Figures} {eight : List ℕ} (front : eight ≡ take 8 bs) (n : ℕ) (long : n + 8 ≡ length bs) (u : Unpacked eight f []) where
-  field_is : (i w v : ℕ) → i + w ≤ 64 → v ≡ bits eight i w → field_of bs o i w ≡ Ok v
-  field_is i w v h e = let s = rw front at e in field_whole bs o i w (omega arith) ∙ ap Ok (sym (s ∙ bits_front bs i w h))
+module _ {bs : List ℕ} {f : Figures} {rest : List ℕ} (u : Unpacked bs f rest) (o : Spot) where
+  field_is : (i w n : ℕ) → i + w ≤ 64 → n ≡ bits bs i w → field_of bs o i w ≡ Ok n
+  field_is i w n h e = field_whole bs o i w (omega (arith, u.whole)) ∙ ap Ok (sym e)
 
   kind_is : field_of bs o 0 4 ≡ Ok f.kind
   kind_is = field_is 0 4 _ (omega arith) u.kind

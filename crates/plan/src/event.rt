@@ -1,5 +1,5 @@
 // An event's record: eight bytes with a kind and three figures.
-ghost use Rattle.std.specs.Prelude.{◌≡◌, ◌<◌, true, [], length, drop, Some, IfOk, Ok, Err};
+ghost use Rattle.std.specs.Prelude.{◌≡◌, ◌<◌, true, length, drop, Some, IfOk, Ok, Err, MatchOption};
 ghost use Rattle.std.specs.Option.{ok_or};
 ghost use Rattle.fault.specs.Faults.{told, shown, record_told, wrong};
 ghost use Rattle.plan.specs.Bits.{spot_of, given, named};
@@ -192,16 +192,20 @@ struct Front {
     a: u32,
 }
 
-fn unpack(eight: &[u8; 8]) -> Figures
-    ensures { Unpacked eight.now result [] }
+// The figures of the first eight bytes, and the bytes after them.
+fn unpack(bytes: &[u8]) -> Option<(Figures, &[u8])>
+    ensures { MatchOption result (length bytes.now < 8) (λ p. Unpacked bytes.now p.0 p.1.now) }
 {
-    let [b0, b1, b2, b3, b4, b5, b6, b7] = *eight;
-    Figures {
-        kind: b0 as u32 / 16,
-        gap: (b0 as u32 % 16) * 65_536 + b1 as u32 * 256 + b2 as u32,
-        a: b3 as u32 * 4096 + b4 as u32 * 16 + b5 as u32 / 16,
-        b: (b5 as u32 % 16) * 65_536 + b6 as u32 * 256 + b7 as u32,
-    }
+    let [b0, b1, b2, b3, b4, b5, b6, b7, rest @ ..] = bytes else {
+        return None;
+    };
+    let figures = Figures {
+        kind: *b0 as u32 / 16,
+        gap: (*b0 as u32 % 16) * 65_536 + *b1 as u32 * 256 + *b2 as u32,
+        a: *b3 as u32 * 4096 + *b4 as u32 * 16 + *b5 as u32 / 16,
+        b: (*b5 as u32 % 16) * 65_536 + *b6 as u32 * 256 + *b7 as u32,
+    };
+    Some((figures, rest))
 }
 
 // The kind that the record's first field names.
@@ -287,10 +291,10 @@ pub(crate) fn read_event<'a>(input: Input<'a>) -> Result<(Event<'a>, &'a [u8]), 
     ensures answer { shown (λ p. row_of p.0) (told record_told result) ≡ event_of input.entry.bytes.now input.entry.start }
     ensures rest { IfOk result (λ p. p.1.now ≡ drop 8 input.entry.bytes.now) }
 {
-    let Some((eight, rest)) = input.bytes.split_first_chunk::<8>() else {
+    let (Some((figures, rest)), Some(eight)) = (unpack(input.bytes), input.bytes.first_chunk::<8>())
+    else {
         return Err(cut(input));
     };
-    let figures = unpack(eight);
     let kind = name_kind(input, figures.kind)?;
     check_figure(input, A, figures.a, kind.lacks_a())?;
     check_figure(input, B, figures.b, kind.lacks_b())?;

@@ -7,24 +7,20 @@ use Rattle.plan.proofs.event.read_event.Goals as goal
 pub returns-in_err-kind-clause-answer : goal.returns-in_err-kind-clause-answer
 returns-in_err-kind-clause-answer c =
     let p = err_from_is_err_and c.from_residual.result c.from_residual.ensures.1 in
-    let cut = c.in-Some.ensures.cases in
-    rw (p.1, p.2) (sym (bad_kind _ _ cut.0 _ cut.2 c.unpack-figures.ensures c.in_err-kind.ensures))
+    rw (p.1, p.2) (sym (bad_kind c.in-Some-Some.ensures _ c.in_err-kind.ensures))
 
 pub returns-in_err-check_figure-clause-answer : goal.returns-in_err-check_figure-clause-answer
 returns-in_err-check_figure-clause-answer c =
     let p = err_from_is_err_and c.from_residual-in_err-check_figure.result c.from_residual-in_err-check_figure.ensures.1 in
-    let cut = c.in-Some.ensures.cases in
-    rw (p.1, p.2) (sym (bad_a _ _ cut.0 _ cut.2 c.unpack-figures.ensures c.in_ok-kind.ensures c.lacks_a.ensures c.in_err-check_figure.ensures))
+    rw (p.1, p.2) (sym (bad_a c.in-Some-Some.ensures _ c.in_ok-kind.ensures c.lacks_a.ensures c.in_err-check_figure.ensures))
 
 pub returns-in_err-check_figure-2-clause-answer : goal.returns-in_err-check_figure-2-clause-answer
 returns-in_err-check_figure-2-clause-answer c =
     let p = err_from_is_err_and c.from_residual-in_err-check_figure-2.result c.from_residual-in_err-check_figure-2.ensures.1 in
-    let cut = c.in-Some.ensures.cases in
-    rw (p.1, p.2) (sym (bad_b _ _ cut.0 _ cut.2 c.unpack-figures.ensures c.in_ok-kind.ensures c.lacks_a.ensures c.in_ok-check_figure.ensures c.lacks_b.ensures c.in_err-check_figure-2.ensures))
+    rw (p.1, p.2) (sym (bad_b c.in-Some-Some.ensures _ c.in_ok-kind.ensures c.lacks_a.ensures c.in_ok-check_figure.ensures c.lacks_b.ensures c.in_err-check_figure-2.ensures))
 
 pub returns-clause-answer : goal.returns-clause-answer
 returns-clause-answer c =
-    let cut = c.in-Some.ensures.cases in
-    let right = good _ _ cut.0 _ cut.2 c.unpack-figures.ensures c.in_ok-kind.ensures c.lacks_a.ensures c.in_ok-check_figure.ensures c.lacks_b.ensures c.in_ok-check_figure-2.ensures in
-    let eight = ap (λ bs. row_with c.in_ok-kind.kind c.unpack-figures.result bs c.args.input.start.byte) cut.0 in
+    let right = good c.in-Some-Some.ensures _ c.in_ok-kind.ensures c.lacks_a.ensures c.in_ok-check_figure.ensures c.lacks_b.ensures c.in_ok-check_figure-2.ensures in
+    let eight = ap (λ bs. row_with c.in_ok-kind.kind c.in-Some-Some.figures bs c.args.input.start.byte) c.in-Some-Some.ensures'.cases.same in
     ap Ok (c.event_of.ensures ∙ eight) ∙ sym right
