@@ -1,12 +1,12 @@
 -- What a loop over a plan's events keeps.
-use Rattle.std.proofs.Common.{◌≡◌, ℕ, suc, ◌+◌, ◌-◌, ◌*◌, ◌/◌, ◌<◌, ◌≤◌, Bool, true, false, cond, List, [], ◌∷◌, ◌++◌, length, drop, Some, None, Ok, Err, Result, sym, refl, ap, ◌∙◌, subst, ⊎_elim, append_assoc, append-nil, arith, length-drop}
+use Rattle.std.proofs.Common.{◌≡◌, ℕ, suc, ◌+◌, ◌-◌, ◌*◌, ◌/◌, ◌<◌, ◌≤◌, Bool, true, false, cond, List, [], ◌∷◌, ◌++◌, length, drop, Some, None, Ok, Err, Result, sym, refl, ap, ◌∙◌, subst, ⊎_elim, append_assoc, arith, length-drop}
 use Rattle.std.proofs.lemmas.List.{length_push}
 use Rattle.std.proofs.lemmas.Bool.{cases_lt}
 use Rattle.fault.specs.declared.Spot.{Spot}
 use Rattle.plan.specs.Bits.{spot_of, then, given}
 use Rattle.fault.specs.Faults.{Fault, trailing}
 use Rattle.plan.specs.Records.{Row, front_of, event_of}
-use Rattle.plan.specs.Plans.{Reader, is_end, placed, step_of, after_spot, events_of, first_spot, next_spot, Fresh, next_of, passed, after_of}
+use Rattle.plan.specs.Plans.{Reader, is_end, placed, step_of, after_spot, events_of, next_spot, next_of, passed, after_of}
 use Rattle.plan.proofs.Fields.{field_cut}
 
 never_some : {A B : Type 0} (r : Result A Fault) (e : Fault) (x : B) → Ok x ≡ then r (λ _. Err e) → ⊥
