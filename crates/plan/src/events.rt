@@ -20,6 +20,7 @@ pub struct Events<'a> {
 }
 
 // The header of a plan, and the reader of its events.
+#[tactic(auto, using(crate::proofs::Limits::header_limits))]
 pub fn read_header<'a>(bytes: &'a [u8]) -> Result<(Header, Events<'a>), PlanFault>
     ensures answer { shown (λ p. (p.0, reader_of p.1)) (told plan_told result) ≡ open_of bytes.now }
     ensures fresh { IfOk result (λ p. Fresh (reader_of p.1)) }
@@ -38,6 +39,7 @@ pub fn read_header<'a>(bytes: &'a [u8]) -> Result<(Header, Events<'a>), PlanFaul
 }
 
 // The event at the front of the input, and the bytes after it: none after an end record, which has to be the last.
+#[tactic(auto, using(crate::proofs::Steps::step_fault, crate::proofs::Steps::step_on, crate::proofs::Steps::step_end, crate::proofs::Steps::step_trailing))]
 fn read_step<'a>(input: Input<'a>) -> Result<(Event<'a>, Option<&'a [u8]>), PlanFault>
     ensures answer { shown (λ p. row_of p.0) (told plan_told result) ≡ step_of input.entry.bytes.now input.entry.start }
     ensures rest { IfOk result (λ p. (unread p.1 ≡ drop 8 input.entry.bytes.now) × (is_none p.1 ≡ is_end (row_of p.0).kind)) }

@@ -37,6 +37,7 @@ fn bits(bytes: &[u8], field: Field) -> u32
     requires { field.at + field.width ≤ 8 * length bytes.now }
     ensures { result ≡ bits_of bytes.now field.at field.width }
 {
+    // A loop and no fold: its invariant bounds the value so far, and so the sum fits.
     let mut value = 0;
     for k in 0..field.width {
         value = value * 2 + bit(bytes, field.at + k) as u32;

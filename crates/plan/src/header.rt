@@ -49,7 +49,7 @@ impl TryFrom<u32> for PolicyKind {
     }
 }
 
-// The bounds of the first `cores` places are the cores' own; the other places hold 0.
+// The bounds of the first `cores` places are the cores' own; the other places hold 0. A header is Copy, which a list of the bounds would not be.
 #[derive(Clone, Copy, Debug)]
 pub struct Header {
     pub cores: u8,
@@ -220,6 +220,7 @@ fn read_bounds(bytes: &[u8], cores: Cores) -> Result<[u16; 8], RecordFault>
     Ok(bounds)
 }
 
+#[tactic(auto, using(crate::proofs::Fields::field_fits))]
 fn read_filling(bytes: &[u8], cores: Cores) -> Result<(), RecordFault>
     ensures answer { told record_told result ≡ filling_of bytes.now cores }
     ensures room { OnOk result (header_length cores ≤ length bytes.now) }
