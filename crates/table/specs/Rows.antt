@@ -1,5 +1,5 @@
 -- What holds of every live reservation of a table.
-use Rattle.std.specs.Prelude.{ℕ, ◌+◌, Bool, true, ◌&&◌, List, [], ◌∷◌, nat_le, nat_lt}
+use Rattle.std.specs.Prelude.{ℕ, ◌+◌, Bool, ◌&&◌, nat_le, nat_lt}
 use Rattle.terms.specs.Limits.{in_limits}
 use Rattle.rules.specs.declared.types.Reservation.{Reservation}
 
@@ -7,8 +7,3 @@ use Rattle.rules.specs.declared.types.Reservation.{Reservation}
 -- after it.
 abbrev pub fit : ℕ → Reservation → Bool
 fit t r = in_limits r.budget r.period && (nat_lt r.core 8 && (nat_le r.ran t && nat_le r.deadline (t + 1000000)))
-
--- All of them fit.
-abbrev pub all_fit : ℕ → List Reservation → Bool
-all_fit t [] = true
-all_fit t (r ∷ rs) = fit t r && all_fit t rs

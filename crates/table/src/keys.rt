@@ -10,7 +10,7 @@ use calendar::{Calendar, Order};
 use rules::{LIVE_LIMIT, Reservation};
 
 // What ready reservations are ordered by: the earlier deadline first, then the lower number.
-#[derive(Clone, Copy, PartialEq, Eq, PartialOrd, Ord)]
+#[derive(Clone, Copy, Default, PartialEq, Eq, PartialOrd, Ord)]
 pub struct Key {
     pub deadline: u32,
     pub number: u32,
@@ -37,7 +37,7 @@ impl Order for Key {
     }
 }
 
-// A calendar of keys with its places, and the least of them.
+// A calendar of keys with its places, which are lent to it at each call, and the least of them.
 #[derive(Clone, Copy)]
 pub struct Queue {
     calendar: Calendar,

@@ -1,11 +1,12 @@
 // The pass of a tick over the rows: it changes only those that it concerns.
 ghost use Rattle.std.specs.Prelude.{◌≡◌, ℕ, ◌-◌, ◌<◌, ◌≤◌, true, List, length, map};
+ghost use Rattle.std.specs.List.{AllPass};
 ghost use Rattle.rules.specs.Setup.{last_tick};
 ghost use Rattle.rules.specs.System.{live_limit};
 ghost use Rattle.table.specs.declared.keys.Key.{Key};
 ghost use Rattle.table.specs.Calls.{is_concerned, ticked};
 ghost use Rattle.table.specs.Keys.{filed_on, less_on, waiting_on, Tied};
-ghost use Rattle.table.specs.Rows.{all_fit, fit};
+ghost use Rattle.table.specs.Rows.{fit};
 
 use crate::keys::Queue;
 use crate::ready::refile;
@@ -25,7 +26,7 @@ impl Tick<'_> {
     // Passes for each row, and keeps the queues tied to the rows.
     pub fn pass_rows(&self, rows: &mut [Reservation], ready: &mut [Queue; MOST_CORES])
         requires few { length rows.old ≤ live_limit }
-        requires fits { all_fit (self.now.clock - 1) rows.old ≡ true }
+        requires fits { AllPass (fit (self.now.clock - 1)) rows.old }
         requires tied { Tied ready.old rows.old }
         ensures rows { rows.new ≡ map (ticked self.now.picks.now.names self.now.clock) rows.old }
         ensures tied { Tied ready.new rows.new }

@@ -1,4 +1,4 @@
-// The ready queues of all cores, by the rows whose keys they hold.
+// The ready queues of all cores, by the rows whose keys they hold. A row is a plain reservation, so that its core is one of eight is asked here.
 ghost use Rattle.std.specs.Prelude.{◌≡◌, ℕ, ◌<◌, true, List, length};
 ghost use Rattle.table.specs.declared.keys.Key.{Key};
 ghost use Rattle.table.specs.Keys.{filed_on, less_on, waiting_on};

@@ -8,7 +8,7 @@ ghost use Rattle.table.specs.Rows.{fit};
 use rules::{MOST_CORES, Reservation, State};
 use terms::Refusal;
 
-// The name dealt for each of eight cores, or none.
+// The name dealt for each of eight cores, or none: plain, since callers make and read it.
 #[derive(Clone, Copy)]
 pub struct Picks {
     pub names: [Option<u32>; MOST_CORES],
@@ -23,7 +23,8 @@ pub enum Event {
     Refill,
 }
 
-// Changes a reservation by an event at the tick `clock`, unless the event is refused.
+// Changes a reservation in its place by an event at the tick `clock`, unless the event is refused. A row is a plain reservation, so what
+// holds of it at this clock is asked here.
 pub fn change(row: &mut Reservation, event: Event, clock: u32) -> Result<(), Refusal>
     requires { (fit clock row.old ≡ true) × (clock ≤ last_tick) }
     ensures answer { result ≡ verdict event row.old }

@@ -16,10 +16,7 @@ impl Queue {
     {
         Queue {
             calendar: Calendar::new(),
-            places: [Key {
-                deadline: 0,
-                number: 0,
-            }; LIVE_LIMIT],
+            places: [Key::default(); LIVE_LIMIT],
             least: None,
         }
     }

@@ -1,6 +1,8 @@
-use Rattle.std.proofs.Common.{refl, arith}
+use Rattle.std.proofs.Common.{◌≡◌, true, refl, arith}
+use Rattle.std.proofs.lemmas.List.Elements.{All-push}
+use Rattle.table.specs.Rows.{fit}
 use Rattle.table.specs.View.{live_of}
-use Rattle.table.proofs.Fits.{all_push, fit_newcomer}
+use Rattle.table.proofs.Fits.{fit_newcomer}
 use Rattle.table.proofs.Ties.{tied_push}
 use Rattle.table.proofs.live.Table.admit.Goals as goal
 
@@ -9,7 +11,7 @@ invariant_of-self-clause-fitting c =
     let t = c.args.self.now in
     let fits =
     fit_newcomer t.clock c.args.number c.budget.result c.period.result c.args.parts c.args.core c.budget.ensures.low (omega arith) c.period.ensures.high c.if-core-ge-MOST_CORES.false in
-    rw c.push.ensures.items (all_push t.clock (live_of t) _ t.fitting fits)
+    rw c.push.ensures.items (All-push (λ r. fit t.clock r ≡ true) (live_of t) _ t.fitting fits)
 
 pub invariant_of-self-clause-tied : goal.invariant_of-self-clause-tied
 invariant_of-self-clause-tied c =

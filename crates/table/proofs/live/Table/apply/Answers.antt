@@ -2,7 +2,6 @@ use Rattle.std.proofs.Common.{Err, refl, ap}
 use Rattle.std.proofs.lemmas.Result.{err_from_is_err_and}
 use Rattle.table.specs.View.{live_of}
 use Rattle.table.proofs.Events.{refused_answer, refused_live, done_answer, done_live}
-use Rattle.table.proofs.Fits.{fit_at}
 use Rattle.table.proofs.Search.{found, missing}
 use Rattle.table.proofs.live.Table.apply.Goals as goal
 
@@ -21,7 +20,7 @@ pub change-requires : goal.change-requires
 change-requires c =
     let t = c.args.self.now in
     let at = found c.args.number c.in_ok-place.place (live_of t) c.in_ok-place.ensures in
-    (rw c.deref.ensures.0 (fit_at t.clock (live_of t) c.in_ok-place.place _ t.fitting at.within), t.clocked)
+    (rw c.deref.ensures.0 (t.fitting c.in_ok-place.place _ at.within), t.clocked)
 
 pub returns-in_err-change-clause-answer : goal.returns-in_err-change-clause-answer
 returns-in_err-change-clause-answer c =
@@ -42,7 +41,7 @@ replace-requires c =
     let at = found c.args.number c.in_ok-place.place (live_of t) c.in_ok-place.ensures in
     record {
       within = at.within;
-      fits = rw (c.in_ok-change.ensures.next, c.deref.ensures.0) (c.requires _ (fit_at t.clock (live_of t) c.in_ok-place.place _ t.fitting at.within));
+      fits = rw (c.in_ok-change.ensures.next, c.deref.ensures.0) (c.requires _ (t.fitting c.in_ok-place.place _ at.within));
     }
 
 pub returns-clause-answer : goal.returns-clause-answer

@@ -22,12 +22,12 @@ pub unfile-requires : goal.unfile-requires
 unfile-requires c =
     let t = c.args.self.now in
     let at = found c.args.number c.in_ok-place.place (live_of t) c.in_ok-place.ensures in
-    subst (λ r. r.core < 8) (sym c.remove-row.ensures.value) (core_at t.clock (live_of t) c.in_ok-place.place c.remove-row.result t.fitting at.within)
+    subst (λ r. r.core < 8) (sym c.remove-row.ensures.value) (core_at t.clock (live_of t) t.fitting c.in_ok-place.place c.remove-row.result at.within)
 
 pub invariant_of-self-clause-fitting : goal.invariant_of-self-clause-fitting
 invariant_of-self-clause-fitting c =
     let t = c.args.self.now in
-    rw c.remove-row.ensures.items (all_removed t.clock (live_of t) c.in_ok-place.place t.fitting)
+    rw c.remove-row.ensures.items (all_removed t.clock (live_of t) t.fitting c.in_ok-place.place)
 
 pub invariant_of-self-clause-tied : goal.invariant_of-self-clause-tied
 invariant_of-self-clause-tied c =

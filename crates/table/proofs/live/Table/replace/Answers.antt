@@ -1,9 +1,11 @@
-use Rattle.std.proofs.Common.{◌≡◌, length, set, ap, ◌∙◌, arith}
+use Rattle.std.proofs.Common.{◌≡◌, true, length, set, ap, ◌∙◌, arith}
 use Rattle.std.specs.List.{refill}
 use Rattle.std.proofs.lemmas.List.{length-set}
+use Rattle.std.proofs.lemmas.List.Elements.{All-set}
 use Rattle.arrayvec.proofs.ArrayVecLemmas.{items-with_items}
+use Rattle.table.specs.Rows.{fit}
 use Rattle.table.specs.View.{live_of}
-use Rattle.table.proofs.Fits.{all_set, core_at, fit_core}
+use Rattle.table.proofs.Fits.{core_at, fit_core}
 use Rattle.table.proofs.Ties.{room_less, tied_next}
 use Rattle.table.proofs.live.Table.replace.Goals as goal
 
@@ -18,7 +20,7 @@ refile-requires c =
     let t = c.args.self.now in
     let rs = live_of t in
     record {
-      from = rw c.deref.ensures.0 (core_at t.clock rs c.args.place _ t.fitting c.requires.within);
+      from = rw c.deref.ensures.0 (core_at t.clock rs t.fitting c.args.place _ c.requires.within);
       to = fit_core t.clock c.args.row c.requires.fits;
       room = rw c.deref.ensures.0 (room_less rs t.ready t.tied c.args.place _ c.requires.within t.counted);
     }
@@ -31,7 +33,7 @@ invariant_of-self-clause-counted c =
 pub invariant_of-self-clause-fitting : goal.invariant_of-self-clause-fitting
 invariant_of-self-clause-fitting c =
     let t = c.args.self.now in
-    rw (rows_are c) (all_set t.clock (live_of t) c.args.place c.args.row t.fitting c.requires.fits)
+    rw (rows_are c) (All-set (λ r. fit t.clock r ≡ true) (live_of t) c.args.place c.args.row c.requires.fits t.fitting)
 
 pub invariant_of-self-clause-tied : goal.invariant_of-self-clause-tied
 invariant_of-self-clause-tied c =

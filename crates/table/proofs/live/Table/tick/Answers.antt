@@ -26,7 +26,7 @@ invariant_of-self-clause-counted c = rw (left c) (omega (arith, long c, c.args.s
 pub invariant_of-self-clause-fitting : goal.invariant_of-self-clause-fitting
 invariant_of-self-clause-fitting c =
     let t = c.args.self.now in
-    rw (left c, passed c) (all_ticked c.args.picks.now.names t.clock (live_of t) t.fitting)
+    rw (left c, passed c) (all_ticked t.clock (live_of t) t.fitting c.args.picks.now.names)
 
 pub invariant_of-self-clause-tied : goal.invariant_of-self-clause-tied
 invariant_of-self-clause-tied c = rw (left c) c.pass_rows.ensures.tied

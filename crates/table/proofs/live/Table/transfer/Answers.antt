@@ -27,7 +27,7 @@ replace-requires c =
     let at = found c.args.number c.in_ok-place.place (live_of t) c.in_ok-place.ensures in
     record {
       within = at.within;
-      fits = rw c.deref.ensures.0 (fit_moved t.clock (live_of t) c.in_ok-place.place _ c.args.core t.fitting at.within c.if-core-ge-MOST_CORES.false);
+      fits = rw c.deref.ensures.0 (fit_moved t.clock (live_of t) t.fitting c.in_ok-place.place _ at.within c.args.core c.if-core-ge-MOST_CORES.false);
     }
 
 pub returns-clause-answer : goal.returns-clause-answer

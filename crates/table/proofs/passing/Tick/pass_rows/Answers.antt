@@ -2,7 +2,6 @@ use Rattle.std.proofs.Common.{get_or, set, refl, ap, ◌∙◌, arith}
 use Rattle.std.proofs.lemmas.List.{get_or_default}
 use Rattle.std.proofs.lemmas.List.Edits.{map_over_more}
 use Rattle.table.specs.Calls.{ticked}
-use Rattle.table.proofs.Fits.{fit_at}
 use Rattle.table.proofs.Turns.{all_over, at_over}
 use Rattle.table.proofs.Ties.{room_less, tied_next}
 use Rattle.table.proofs.passing.Tick.pass_rows.Goals as goal
@@ -12,7 +11,7 @@ loop-row-init c = record { passed = refl; tied = c.requires.tied }
 
 pub pass_row-requires-clause-fits : goal.pass_row-requires-clause-fits
 pass_row-requires-clause-fits c =
-    rw (at_over (ticked c.args.self.now.picks.now.names c.args.self.now.clock) c.args.rows.now c.loop-row.row-items c.loop-row.row-index c.loop-row.invariant.passed _ c.loop-row-test.true) (fit_at _ c.args.rows.now c.loop-row.row-index _ c.requires.fits c.loop-row-test.true)
+    rw (at_over (ticked c.args.self.now.picks.now.names c.args.self.now.clock) c.args.rows.now c.loop-row.row-items c.loop-row.row-index c.loop-row.invariant.passed _ c.loop-row-test.true) (c.requires.fits c.loop-row.row-index _ c.loop-row-test.true)
 
 pub pass_row-requires-clause-room : goal.pass_row-requires-clause-room
 pass_row-requires-clause-room c =
