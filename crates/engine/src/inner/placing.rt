@@ -66,6 +66,7 @@ impl Inner {
     pub fn rooms(&self, whole: Whole) -> ArrayVec<u32, MOST_CORES>
         ensures { result.items ≡ rooms (bare whole.parts self.now) (view self.now) }
     {
+        // Pushed one by one, since to collect or to extend may fail, and these never do.
         let mut rooms = ArrayVec::new();
         for core in 0..self.figures.len() {
             rooms.push(self.room(core, whole));
