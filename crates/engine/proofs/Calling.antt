@@ -77,7 +77,7 @@ module _ (s : Setup) (σ : System) where
 
   -- What follows from the answer of a deal: the round bears the clock's tick, and there is a name for each core.
   pub deal_answered : (t : ℕ) → Dealt t ≡ reply s σ Deal → (accepts s σ Deal ≡ true) × ((next s σ Deal).out ≡ true) × (t ≡ (next s σ Deal).clock) × ((next s σ Deal).names ≡ picks (length s.figures) σ.live)
-  deal_answered t e = by_step s σ Deal (λ b a σ'. Dealt t ≡ a → (b ≡ true) × (σ'.out ≡ true) × (t ≡ σ'.clock) × (σ'.names ≡ picks (length s.figures) σ.live)) (λ n h. let z : ◌≡◌ {A = ℕ} 0 1 = cc in absurd (omega arith)) go e
+  deal_answered t e = by_step s σ Deal (λ b a σ'. Dealt t ≡ a → (b ≡ true) × (σ'.out ≡ true) × (t ≡ σ'.clock) × (σ'.names ≡ picks (length s.figures) σ.live)) (λ n h. absurd (cc)) go e
     where
       go : (a : Answer) (σ' : System) → Step s σ Deal a σ' → Dealt t ≡ a → (true ≡ true) × (σ'.out ≡ true) × (t ≡ σ'.clock) × (σ'.names ≡ picks (length s.figures) σ.live)
       go a σ' (deals settled going) h = (refl, refl, cc, refl)
@@ -129,8 +129,7 @@ module _ {s : Setup} {σ τ : System} where
   pub dealt_none : (r : Round) (x : Round) → Performed s σ Deal (Dealt r.tick) τ → InHand (Some x) σ → ⊥
   dealt_none r x done held =
       let e = done.answer ∙ ap answer_of (deal_out s σ held.0) in
-      let z : ◌≡◌ {A = ℕ} 0 1 = cc in
-      omega arith
+      cc
 
   -- and the settle of the round in hand leaves none.
   pub settled_held : (r : Round) (a : Answer) → Performed s σ (Settle r.tick) a τ → InHand (Some r) σ → InHand None τ
