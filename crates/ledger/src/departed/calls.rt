@@ -84,7 +84,7 @@ impl Ledger {
     }
 }
 
-// Takes the least entry while its lapse tick has come, and shows the least that is left. The places are lent to the calendar at each call.
+// Takes the least entry while its lapse tick has come, and shows the least that is left. A calendar's places come with it to each call.
 fn take_lapsed(calendar: &mut Calendar, places: &mut [Entry], clock: u32) -> Option<Entry>
     ensures answer { result ≡ first (queue lapses_first (held calendar.new places.new)) }
     ensures next { SameEntries (held calendar.new places.new) (purged clock (held calendar.old places.old)) }
