@@ -57,10 +57,8 @@ impl Ledger {
         ensures { SameEntries (entries self.new) (purged clock (entries self.old)) }
     {
         if self.earliest <= clock {
-            self.earliest = take_lapsed(&mut self.calendar, &mut self.places, clock).map_or(
-                u32::MAX,
-                |entry| entry.lapse,
-            );
+            let least = take_lapsed(&mut self.calendar, &mut self.places, clock);
+            self.earliest = least.map_or(u32::MAX, |entry| entry.lapse);
         }
     }
 
