@@ -13,6 +13,7 @@ const LEDGER_LIMIT: usize = 128;
 #[derive(Drop)]
 pub struct Ledger {
     calendar: Calendar,
+    // Lent to the calendar at each call.
     places: [Entry; LEDGER_LIMIT],
     earliest: u32,
     ghost long: { length places ≡ ledger_limit },

@@ -1,4 +1,4 @@
--- A fit's preference is a strict weak order. Words: StrictWeakOrder, Picks.
+-- A fit's preference is a strict weak order. Words: StrictWeakOrder, ChosenBy.
 use Rattle.std.specs.Prelude.{◌≡◌, ℕ, Bool, true, false, List, Option}
 use Rattle.policy.specs.Choices.{chosen}
 
@@ -9,7 +9,7 @@ pub record StrictWeakOrder (prefers : ℕ → ℕ → Bool) : Type 0 where
   pub negatively_transitive : (x y z : ℕ) → prefers x y ≡ false → prefers y z ≡ false → prefers x z ≡ false
 
 -- The core named is the choice by the order that the answers give: `says room other b` where `b` may be answered to whether a room is preferred to the other.
-abbrev pub Picks : (ℕ → ℕ → Bool → Type 0) → List ℕ → ℕ → Option ℕ → Type 0
-Picks says rooms parts named =
+abbrev pub ChosenBy : (ℕ → ℕ → Bool → Type 0) → List ℕ → ℕ → Option ℕ → Type 0
+ChosenBy says rooms parts named =
     (prefers : ℕ → ℕ → Bool) → StrictWeakOrder prefers → ((room other : ℕ) (b : Bool) → says room other b → b ≡ prefers room other)
     → named ≡ chosen prefers rooms parts

@@ -1,7 +1,7 @@
 // First fit, worst fit and best fit; ties go to the lowest core.
 ghost use Rattle.std.specs.Prelude.{◌≡◌};
 ghost use Rattle.policy.specs.Choices.{prefers_none, prefers_more, prefers_less, first_fit, worst_fit, best_fit};
-ghost use Rattle.policy.specs.Orders.{Picks};
+ghost use Rattle.policy.specs.Orders.{ChosenBy};
 ghost use Rattle.policy.specs.Pins.{LowestThatSuffices, MostRoom, LeastRoom};
 ghost use Rattle.policy.specs.Chosen;
 
@@ -61,7 +61,7 @@ impl Policy for BestFit {
 // The core that is preferred of those with room for the parts: `prefers` says whether a room is preferred to the other.
 fn pick<F: Fn(u32, u32) -> bool>(rooms: &[u32], parts: u32, prefers: F) -> Option<usize>
     requires { F.IsAlwaysCallable prefers }
-    ensures { Picks (F.post prefers) rooms.now parts result }
+    ensures { ChosenBy (F.post prefers) rooms.now parts result }
 {
     let mut named = None;
     for (core, &room) in rooms.iter().enumerate() {

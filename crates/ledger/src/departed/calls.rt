@@ -57,10 +57,8 @@ impl Ledger {
         ensures { SameEntries (entries self.new) (purged clock (entries self.old)) }
     {
         if self.earliest <= clock {
-            self.earliest = take_lapsed(&mut self.calendar, &mut self.places, clock).map_or(
-                u32::MAX,
-                |entry| entry.lapse,
-            );
+            let least = take_lapsed(&mut self.calendar, &mut self.places, clock);
+            self.earliest = least.map_or(u32::MAX, |entry| entry.lapse);
         }
     }
 
@@ -84,7 +82,7 @@ impl Ledger {
     }
 }
 
-// Takes the least entry while its lapse tick has come, and shows the least that is left. The places are lent to the calendar at each call.
+// Takes the least entry while its lapse tick has come, and shows the least that is left. A calendar's places come with it to each call.
 fn take_lapsed(calendar: &mut Calendar, places: &mut [Entry], clock: u32) -> Option<Entry>
     ensures answer { result ≡ first (queue lapses_first (held calendar.new places.new)) }
     ensures next { SameEntries (held calendar.new places.new) (purged clock (held calendar.old places.old)) }

@@ -8,9 +8,9 @@ use Rattle.ledger.proofs.departed.Ledger.purge.Goals as goal
 
 pub invariant_of-self-clause-later : goal.invariant_of-self-clause-later
 invariant_of-self-clause-later c =
-    let es = held c.take_lapsed.new.calendar c.take_lapsed.new.places in
-    let earliest : IfSome c.take_lapsed.result (λ e. c.map_or-self.result ≡ e.lapse) = search rules in
-    none_before_least c.take_lapsed.result _ es c.take_lapsed.ensures.answer earliest
+    let es = held c.take_lapsed-least.new.calendar c.take_lapsed-least.new.places in
+    let earliest : IfSome c.take_lapsed-least.result (λ e. c.map_or-self.result ≡ e.lapse) = search rules in
+    none_before_least c.take_lapsed-least.result _ es c.take_lapsed-least.ensures.answer earliest
 
 pub returns-else-self-clock : goal.returns-else-self-clock
 returns-else-self-clock c =
