@@ -1,9 +1,10 @@
 -- What a queue keeps of its list: any sum or count, what is held, and the copies of each element, which fix the queue.
 -- Assumes nothing.
-use Rattle.std.proofs.Common.{◌≡◌, ℕ, zero, suc, ◌+◌, ◌<◌, Bool, true, false, cond, ◌||◌, List, [], ◌∷◌, ◌++◌, length, get_or, sum_by, sym, refl, ap, ◌∙◌, subst, ⊎_elim, not-suc-le-zero, arith}
-use Rattle.std.specs.List.{AllByRecursion}
+use Rattle.std.proofs.Common.{◌≡◌, ℕ, zero, suc, ◌+◌, ◌<◌, Bool, true, false, cond, ◌||◌, List, [], ◌∷◌, ◌++◌, length, get_or, filter, sum_by, sym, refl, ap, ◌∙◌, subst, ⊎_elim, not-suc-le-zero, arith}
+use Rattle.std.specs.List.{All}
+use Rattle.std.proofs.lemmas.List.Elements.{All-head, All-tail}
 use Rattle.std.proofs.lemmas.List.Sums.{sum_by-cons}
-use Rattle.std.proofs.lemmas.Bool.{cond_both, cases_Bool, true≢false}
+use Rattle.std.proofs.lemmas.Bool.{cond_both, cases_Bool}
 use Rattle.calendar.specs.Orders.{Total, alike}
 use Rattle.calendar.specs.Queues.{filed, queue, without, holds, copies, SameCopies}
 use Rattle.calendar.proofs.Filing.{itself, filed_comm, without_filed}
@@ -48,6 +49,11 @@ module _ {X : Type 0} (before : X → X → Bool) where
   copies_push x [] y = omega arith
   copies_push x (z ∷ xs) y = omega (arith, copies_push x xs y)
 
+  -- the copies are those that a filter keeps
+  pub copies_filter : (x : X) (xs : List X) → length (filter (alike before x) xs) ≡ copies before x xs
+  copies_filter x [] = refl
+  copies_filter x (y ∷ ys) = let h = copies_filter x ys in grind arith
+
   -- one that is not held is not taken out
   pub without_none : (x : X) (xs : List X) → holds before x xs ≡ false → without before x xs ≡ xs
   without_none x [] none = refl
@@ -72,14 +78,14 @@ module _ {X : Type 0} {before : X → X → Bool} (o : Total before) where
   holds_at (x ∷ xs) (suc i) d h = let r : holds before (get_or xs i d) xs ≡ true = holds_at xs i d (omega arith) in grind arith
 
   -- what holds of each element holds of one that is held
-  pub all_holds : (P : X → Type 0) (x : X) (xs : List X) → AllByRecursion P xs → holds before x xs ≡ true → P x
-  all_holds P x [] all h = absurd (true≢false (sym h))
+  pub all_holds : (P : X → Type 0) (x : X) (xs : List X) → All P xs → holds before x xs ≡ true → P x
+  all_holds P x [] all h = cc
   all_holds P x (y ∷ ys) all h =
-      ⊎_elim (λ e. subst P (sym (alike_same x y e)) all.0) (λ e. all_holds P x ys all.1 (rw e at h)) (cases_Bool (alike before x y))
+      ⊎_elim (λ e. subst P (sym (alike_same x y e)) (All-head P y ys all)) (λ e. all_holds P x ys (All-tail P y ys all) (rw e at h)) (cases_Bool (alike before x y))
 
   -- one that is held is filed among the others
   pub queue_held : (x : X) (xs : List X) → holds before x xs ≡ true → queue before xs ≡ filed before x (queue before (without before x xs))
-  queue_held x [] h = absurd (true≢false (sym h))
+  queue_held x [] h = cc
   queue_held x (y ∷ ys) h =
       ⊎_elim
       (λ e. rw e (ap (λ z. filed before z (queue before ys)) (sym (alike_same x y e))))

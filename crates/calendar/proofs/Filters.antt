@@ -1,7 +1,7 @@
 -- A filter of a queue, and a queue whose first ones are taken until one passes a test.
 -- Assumes nothing.
 use Rattle.std.proofs.Common.{◌≡◌, Bool, true, false, cond, List, [], ◌∷◌, Some, filter, sym, refl, ap, ◌∙◌, ⊎_elim, arith}
-use Rattle.std.proofs.ByRecursion.{all_kept_by}
+use Rattle.std.proofs.lemmas.List.Elements.{All-cons, All-head, All-tail, All-filter}
 use Rattle.std.proofs.lemmas.Bool.{cond_both, cond-true, cond-false, cases_Bool}
 use Rattle.calendar.specs.Orders.{Total}
 use Rattle.calendar.specs.Queues.{filed, queue, first, after, Ascending}
@@ -20,13 +20,13 @@ module _ {X : Type 0} {before : X → X → Bool} (o : Total before) (p : X → 
   kept_front : (x : X) (q : List X) → Heads before x q → filter p (filed before x q) ≡ cond (p x) (filed before x (filter p q)) (filter p q)
   kept_front x q h =
       ap (filter p) (filed_front o x q h)
-      ∙ ap (λ l. cond (p x) l (filter p q)) (sym (filed_front o x (filter p q) (all_kept_by p (λ y. before x y ≡ true) q h)))
+      ∙ ap (λ l. cond (p x) l (filter p q)) (sym (filed_front o x (filter p q) (All-filter p (λ y. before x y ≡ true) q h)))
 
   pub kept_filed : (x : X) (q : List X) → Ascending before q → filter p (filed before x q) ≡ cond (p x) (filed before x (filter p q)) (filter p q)
   kept_filed x [] asc = refl
   kept_filed x (y ∷ ys) asc =
       ⊎_elim
-      (λ yes-x. kept_front x (y ∷ ys) (yes-x, heads_weaker o x y ys yes-x asc.0))
+      (λ yes-x. kept_front x (y ∷ ys) (All-cons (λ z. before x z ≡ true) y ys yes-x (heads_weaker o x y ys yes-x asc.0)))
       (λ no-x. let h = kept_filed x ys asc.1 in grind arith)
       (cases_Bool (before x y))
 
@@ -41,8 +41,8 @@ module _ {X : Type 0} {before : X → X → Bool} (o : Total before) (p : X → 
   all_pass : (up : Upward before p) (x : X) (q : List X) → p x ≡ true → Heads before x q → filter p q ≡ q
   all_pass up x [] yes-x heads = refl
   all_pass up x (y ∷ ys) yes-x heads =
-      let h = all_pass up x ys yes-x heads.1 in
-      let k = up x y heads.0 in
+      let h = all_pass up x ys yes-x (All-tail (λ z. before x z ≡ true) y ys heads) in
+      let k = up x y (All-head (λ z. before x z ≡ true) y ys heads) in
       grind arith
 
   -- where the first passes, all do

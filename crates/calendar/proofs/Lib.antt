@@ -7,3 +7,4 @@ pub mod Filters
 pub mod Rows
 pub mod Room
 pub mod Steps
+pub mod Least

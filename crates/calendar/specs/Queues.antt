@@ -1,7 +1,7 @@
 -- The sorted list: the one form of what a calendar holds, equal elements counted, whatever the places' arrangement.
 -- Assumes nothing.
 use Rattle.std.specs.Prelude.{◌≡◌, ℕ, ◌+◌, Bool, true, false, cond, ◌||◌, List, [], ◌∷◌, Some, None, Option}
-use Rattle.std.specs.List.{AllByRecursion}
+use Rattle.std.specs.List.{All}
 use Rattle.calendar.specs.Orders.{alike}
 
 -- One more element in an ascending list: it stands before the first that it is at most.
@@ -46,12 +46,12 @@ copies before x (y ∷ ys) = cond (alike before x y) 1 0 + copies before x ys
 -- An answer is an element of a list that is at most each of them, or none of an empty list.
 abbrev pub Least : {X : Type 0} → (X → X → Bool) → List X → Option X → Type 0
 Least before xs None = xs ≡ []
-Least before xs (Some x) = (holds before x xs ≡ true) × AllByRecursion (λ y. before x y ≡ true) xs
+Least before xs (Some x) = (holds before x xs ≡ true) × All (λ y. before x y ≡ true) xs
 
 -- Each element is at most all that follow it.
 abbrev pub Ascending : {X : Type 0} → (X → X → Bool) → List X → Type 0
 Ascending before [] = Unit {0}
-Ascending before (x ∷ xs) = AllByRecursion (λ y. before x y ≡ true) xs × Ascending before xs
+Ascending before (x ∷ xs) = All (λ y. before x y ≡ true) xs × Ascending before xs
 
 -- Two lists have equally many copies of every element.
 abbrev pub SameCopies : {X : Type 0} → (X → X → Bool) → List X → List X → Type 0

@@ -1,11 +1,12 @@
 // The calls of a calendar. What is held is the first of the places, as many as the count says, or all of them where there are fewer; so any places will do.
-ghost use Rattle.std.specs.Prelude.{◌≡◌, ◌-◌, ◌<◌, ◌≤◌, min, length, slice_index_or, slice_set};
+ghost use Rattle.std.specs.Prelude.{◌≡◌, ◌-◌, ◌<◌, slice_index_or, slice_set};
 ghost use Rattle.calendar.specs.Queues.{queue, first, after, without, named, copies, Least};
 ghost use Rattle.calendar.specs.Bags.{Bag};
 ghost use Rattle.calendar.specs.Places.{held, size, counting, put_answer, put_calendar, put_places, put_queue, OneWritten, less, Kept};
 
 use super::scans::{alike, least_place, place_of};
 use super::{Calendar, Order};
+use std::mem;
 use terms::Refusal;
 
 impl Calendar {
@@ -29,11 +30,8 @@ impl Calendar {
         ensures answer { result ≡ first (queue T.before (held self.now places.now)) }
         ensures least { Least T.before (held self.now places.now) result }
     {
-        let n = self.within(places.len());
-        if n == 0 {
-            return None;
-        }
-        Some(places[least_place(places, n)])
+        let held = self.held(places);
+        least_place(held).map(|place| held[place])
     }
 
     // Takes the least out.
@@ -44,12 +42,8 @@ impl Calendar {
         ensures written { OneWritten (size self.old places.old) places.old places.new }
         ensures kept { Kept result places.old places.new }
     {
-        let n = self.within(places.len());
-        if n == 0 {
-            return None;
-        }
-        let place = least_place(places, n);
-        Some(self.take_at(places, n, place))
+        let place = least_place(self.held(places))?;
+        Some(self.take_at(places, place))
     }
 
     // Takes one copy of `x` out, where it is held.
@@ -60,11 +54,8 @@ impl Calendar {
         ensures written { OneWritten (size self.old places.old) places.old places.new }
         ensures kept { Kept result places.old places.new }
     {
-        let n = self.within(places.len());
-        match place_of(places, n, x) {
-            Some(place) => Some(self.take_at(places, n, place)),
-            None => None,
-        }
+        let place = place_of(self.held(places), x)?;
+        Some(self.take_at(places, place))
     }
 
     // How many copies of `x` are held. Its contract says too, by such counts, what the sorted list of a calendar is.
@@ -72,33 +63,25 @@ impl Calendar {
         ensures answer { result ≡ copies T.before x (held self.now places.now) }
         ensures meaning { Bag T.before (held self.now places.now) }
     {
-        let n = self.within(places.len());
-        let mut seen = 0;
-        for i in 0..n {
-            if alike(x, places[i]) {
-                seen += 1;
-            }
-        }
-        seen
+        self.held(places).iter().filter(|y| alike(x, **y)).count()
     }
 
-    // How many of `len` places are held.
-    fn within(&self, len: usize) -> usize
-        ensures { result ≡ min self.now.count len }
+    // The places that are held.
+    fn held<'a, T>(&self, places: &'a [T]) -> &'a [T]
+        ensures { result.now ≡ held self.now places.now }
     {
-        if self.count < len { self.count } else { len }
+        &places[..self.count.min(places.len())]
     }
 
     // Takes the one at a held place out: the last held one goes into the hole.
-    fn take_at<T: Order>(&mut self, places: &mut [T], n: usize, place: usize) -> T
-        requires { (place < n) × (n ≤ length places.old) }
+    fn take_at<T: Order>(&mut self, places: &mut [T], place: usize) -> T
+        requires { place < size self.old places.old }
         ensures answer { result ≡ slice_index_or places.old place result }
-        ensures next { self.new ≡ counting (n - 1) }
-        ensures written { places.new ≡ slice_set places.old place (slice_index_or places.old (n - 1) result) }
+        ensures next { self.new ≡ counting (size self.old places.old - 1) }
+        ensures written { places.new ≡ slice_set places.old place (slice_index_or places.old (size self.old places.old - 1) result) }
     {
-        let taken = places[place];
-        places[place] = places[n - 1];
-        self.count = n - 1;
-        taken
+        self.count = self.count.min(places.len()) - 1;
+        let last = places[self.count];
+        mem::replace(&mut places[place], last)
     }
 }

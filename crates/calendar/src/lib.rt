@@ -8,7 +8,7 @@ ghost use Rattle.calendar.specs.Places.{counting};
 mod calls;
 mod scans;
 
-// A total order: `before x y` says that `x` is at most `y`.
+// A total order: `before x y` says that `x` is at most `y`. Each of two that are at most the other is the other, which std's `Ord` does not say.
 pub trait Order: Copy {
     ghost before: { Self → Self → Bool };
 
@@ -19,7 +19,7 @@ pub trait Order: Copy {
 }
 
 // How many of the caller's places are held, from the front. The places are passed to each call.
-#[derive(Clone, Copy)]
+#[derive(Clone, Copy, Debug, Default, PartialEq, Eq)]
 pub struct Calendar {
     count: usize,
 }

@@ -1,38 +1,27 @@
-// The loops over the first `n` places.
-ghost use Rattle.std.specs.Prelude.{◌≡◌, ◌<◌, ◌≤◌, length, take};
+// The scans of the places that are held.
+ghost use Rattle.std.specs.Prelude.{◌≡◌, length};
+ghost use Rattle.std.specs.Option.{MatchOption};
 ghost use Rattle.calendar.specs.Orders.{alike as same};
 ghost use Rattle.calendar.specs.Places.{LeastAt, FoundAt};
 
 use super::Order;
 
-// The place of a least one among the first `n`.
-pub(super) fn least_place<T: Order>(places: &[T], n: usize) -> usize
-    requires { (0 < n) × (n ≤ length places.now) }
-    ensures { LeastAt T.before places.now n result }
+// The first place of a least one, or none of no places.
+pub(super) fn least_place<T: Order>(held: &[T]) -> Option<usize>
+    ensures { MatchOption result (length held.now ≡ 0) (LeastAt T.before held.now (length held.now)) }
 {
-    let mut place = 0;
-    let mut least = places[0];
-    for i in 1..n {
-        let x = places[i];
-        if !least.at_most(x) {
-            place = i;
-            least = x;
-        }
-    }
-    place
+    held.iter()
+        .copied()
+        .enumerate()
+        .reduce(|least, next| if least.1.at_most(next.1) { least } else { next })
+        .map(|(place, _)| place)
 }
 
-// A place of `x` among the first `n`, or none.
-pub(super) fn place_of<T: Order>(places: &[T], n: usize, x: T) -> Option<usize>
-    requires { n ≤ length places.now }
-    ensures { FoundAt T.before x (take n places.now) result }
+// The first place of `x`, or none.
+pub(super) fn place_of<T: Order>(held: &[T], x: T) -> Option<usize>
+    ensures { FoundAt T.before x held.now result }
 {
-    for i in 0..n {
-        if alike(x, places[i]) {
-            return Some(i);
-        }
-    }
-    None
+    held.iter().position(|y| alike(x, *y))
 }
 
 // Whether the two are the same: each is at most the other.

@@ -7,7 +7,7 @@ ghost use Rattle.calendar.proofs.Ranks.{total_by};
 
 use calendar::Order;
 
-#[derive(Clone, Copy, Debug, PartialEq, Eq)]
+#[derive(Clone, Copy, Debug, PartialEq, Eq, PartialOrd, Ord)]
 pub struct Key {
     pub deadline: u32,
     pub number: u32,
@@ -18,13 +18,13 @@ impl Order for Key {
 
     ghost total = { Prim.search rules };
 
-    fn at_most(self, other: Key) -> bool {
-        self.deadline < other.deadline
-            || self.deadline == other.deadline && self.number <= other.number
+    fn at_most(self, key: Key) -> bool {
+        self <= key
     }
 }
 
-#[derive(Clone, Copy, Debug, PartialEq, Eq)]
+// As the rules' entry, here so that its order may be turned without them.
+#[derive(Clone, Copy, Debug, PartialEq, Eq, PartialOrd, Ord)]
 pub struct Entry {
     pub lapse: u32,
     pub number: u32,
@@ -37,17 +37,8 @@ impl Order for Entry {
 
     ghost total = { total_by entry_figures (λ x y e. Prim.grind arith) };
 
-    fn at_most(self, other: Entry) -> bool {
-        if self.lapse != other.lapse {
-            return self.lapse < other.lapse;
-        }
-        if self.number != other.number {
-            return self.number < other.number;
-        }
-        if self.core != other.core {
-            return self.core < other.core;
-        }
-        self.parts <= other.parts
+    fn at_most(self, entry: Entry) -> bool {
+        self <= entry
     }
 }
 
@@ -55,6 +46,7 @@ impl Order for Entry {
 mod tests {
     use super::*;
     use calendar::Calendar;
+    use std::fmt::Debug;
     use std::process::Abort;
     use std::test::Fail;
     use terms::Refusal;
@@ -72,11 +64,16 @@ mod tests {
         Ok(calendar)
     }
 
-    // Takes the least as often as there are keys listed, and holds each to the list.
-    fn drains(rt: &impl Abort, mut calendar: Calendar, places: &mut [Key], order: &[Key]) {
-        for k in order {
-            assert_eq!(rt; calendar.least(places), Some(*k));
-            assert_eq!(rt; calendar.take_least(places), Some(*k));
+    // Takes the least as often as there are elements listed, and holds each to the list.
+    fn drains<T: Order + PartialEq + Debug>(
+        rt: &impl Abort,
+        mut calendar: Calendar,
+        places: &mut [T],
+        order: &[T],
+    ) {
+        for x in order {
+            assert_eq!(rt; calendar.least(places), Some(*x));
+            assert_eq!(rt; calendar.take_least(places), Some(*x));
         }
         assert_eq!(rt; calendar.len(), 0);
         assert_eq!(rt; calendar.take_least(places), None);
@@ -136,6 +133,7 @@ mod tests {
     fn an_empty_calendar_has_none(rt: HostRuntime) {
         let mut places = [key(7, 7); 3];
         let mut calendar = Calendar::new();
+        assert_eq!(rt; calendar, Calendar::default());
         assert_eq!(rt; calendar.len(), 0);
         assert_eq!(rt; calendar.least(&places), None);
         assert_eq!(rt; calendar.take_least(&mut places), None);
@@ -204,7 +202,7 @@ mod tests {
     }
 
     fn weight(k: Key) -> u64 {
-        k.deadline as u64 * 8 + k.number as u64
+        u64::from(k.deadline) * 8 + u64::from(k.number)
     }
 
     // Puts keys that look random until the places are full, and answers their weight.
@@ -225,8 +223,8 @@ mod tests {
     fn gather(rt: &impl Abort, calendar: &mut Calendar, places: &mut [Key]) -> Result<u64, Fail> {
         let mut last = key(0, 0);
         let mut sum: u64 = 0;
-        for left in 0..places.len() {
-            assert_eq!(rt; calendar.len(), places.len() - left);
+        for held in (1..=places.len()).rev() {
+            assert_eq!(rt; calendar.len(), held);
             let k = calendar.take_least(places).ok_or("lost")?;
             assert!(rt; last.at_most(k));
             sum = sum.wrapping_add(weight(k));
@@ -255,18 +253,6 @@ mod tests {
         }
     }
 
-    fn drains_entries(
-        rt: &impl Abort,
-        mut calendar: Calendar,
-        places: &mut [Entry],
-        order: &[Entry],
-    ) {
-        for e in order {
-            assert_eq!(rt; calendar.take_least(places), Some(*e));
-        }
-        assert_eq!(rt; calendar.len(), 0);
-    }
-
     #[test]
     fn entries_go_by_their_figures_in_turn(rt: HostRuntime) -> Result<(), Fail> {
         let a = entry(1, 9, 9, 9);
@@ -276,7 +262,7 @@ mod tests {
         let e = entry(2, 2, 1, 4);
         let mut places = [a; 5];
         let calendar = filled(&mut places, &[d, b, e, a, c])?;
-        drains_entries(&rt, calendar, &mut places, &[a, b, c, d, e]);
+        drains(&rt, calendar, &mut places, &[a, b, c, d, e]);
         Ok(())
     }
 }

@@ -2,6 +2,7 @@
 use Rattle.std.proofs.Common.{◌≡◌, ℕ, ◌+◌, ◌<◌, ◌≤◌, Bool, true, false, ◌&&◌, ◌⊎◌, List, [], ◌∷◌, length, Some, None, sym, refl, ap, ◌∙◌, subst, inl, inr, arith}
 use Rattle.std.specs.Option.{option_map}
 use Rattle.std.proofs.lemmas.Bool.{cases_eq}
+use Rattle.std.proofs.lemmas.Option.{none-some}
 use Rattle.rules.specs.declared.types.Reservation.{Reservation}
 use Rattle.rules.specs.declared.types.Call.{Call}
 use Rattle.rules.specs.declared.types.Answer.{Answer}
@@ -13,7 +14,7 @@ use Rattle.rules.specs.Calls.{admitted}
 use Rattle.rules.specs.Replay.{next, accepts, after}
 use Rattle.rules.specs.Share.{is_settle, is_named, Lawful}
 use Rattle.rules.proofs.Steps.{Step, admits, wakes, rests, leaves, moves, deals, settles, by_step}
-use Rattle.rules.proofs.Finding.{none_some, found_number, find_change_other, find_without_other, find_push_same, find_push_other, find_map}
+use Rattle.rules.proofs.Finding.{found_number, find_change_other, find_without_other, find_push_same, find_push_other, find_map}
 use Rattle.rules.proofs.Basics.{Basic, basic_next, woken_number, ticked_number}
 use Rattle.rules.proofs.Picking.{not_named}
 
@@ -28,7 +29,7 @@ module _ (s : Setup) (σ : System) (b : Basic s σ) (n : ℕ) (none : find n σ.
   refusal_absence false run = absent none (λ l. l) (omega arith)
 
   apart : (m : ℕ) (r : Reservation) → find m σ.live ≡ Some r → n ≡ m → ⊥
-  apart m r found e = none_some (sym none ∙ ap (λ (k : ℕ). find k σ.live) e ∙ found)
+  apart m r found e = none-some _ (sym none ∙ ap (λ (k : ℕ). find k σ.live) e ∙ found)
 
   none_changed : (f : Reservation → Reservation) → ((y : Reservation) → (f y).number ≡ y.number) → (m : ℕ) (r : Reservation) → find m σ.live ≡ Some r → find n (change m (f r) σ.live) ≡ None
   none_changed f keep m r found = find_change_other n m (f r) σ.live (keep r ∙ found_number m σ.live r found) (apart m r found) ∙ none

@@ -1,6 +1,7 @@
 -- The clock is the start and the ticks; a record's ticks run are the runs of its number.
 use Rattle.std.proofs.Common.{◌≡◌, ℕ, ◌+◌, ◌<◌, ◌≤◌, Bool, true, false, cond, ◌&&◌, List, [], ◌∷◌, ◌++◌, Some, None, Option, sym, refl, ap, ◌∙◌, arith}
 use Rattle.std.proofs.lemmas.Bool.{cond_both}
+use Rattle.std.proofs.lemmas.Option.{none-some, same_Some}
 use Rattle.rules.specs.declared.types.Reservation.{Reservation}
 use Rattle.rules.specs.declared.types.Call.{Call}
 use Rattle.rules.specs.declared.types.Answer.{Answer}
@@ -9,9 +10,9 @@ use Rattle.rules.specs.Setup.{Setup}
 use Rattle.rules.specs.System.{System, fresh}
 use Rattle.rules.specs.Server.{charged, is_due, refilled, woken, keeps}
 use Rattle.rules.specs.Replay.{next, accepts, after, replay}
-use Rattle.rules.specs.Share.{is_settle, is_named, ticks, runs, Lawful}
+use Rattle.rules.specs.Share.{is_settle, ticks, runs, Lawful}
 use Rattle.rules.proofs.Steps.{Step, admits, wakes, rests, leaves, moves, deals, settles, by_step}
-use Rattle.rules.proofs.Finding.{none_some, some_same, found_above}
+use Rattle.rules.proofs.Finding.{found_above}
 use Rattle.rules.proofs.Basics.{Basic, basic, basic_next}
 use Rattle.rules.proofs.Turns.{Turn, turn, by_turn, turn_gone}
 use Rattle.rules.proofs.Absences.{Absence, absent, born, absence, gone_after}
@@ -45,12 +46,7 @@ clock_after s σ (c ∷ cs) = omega (arith, clock_after s (next s σ c) cs, cloc
 -- It runs no more than the ticks that pass.
 pub runs_le_ticks : (s : Setup) (n : ℕ) (σ : System) (cs : List Call) → runs s n σ cs ≤ ticks s σ cs
 runs_le_ticks s n σ [] = omega arith
-runs_le_ticks s n σ (c ∷ cs) = let l = runs_le_ticks s n (next s σ c) cs in let k = one (is_settle c && accepts s σ c) (is_named n σ.names) in omega arith
-  where
-    one : (t w : Bool) → cond (t && w) 1 0 ≤ cond t 1 0
-    one true true = omega arith
-    one true false = omega arith
-    one false w = omega arith
+runs_le_ticks s n σ (c ∷ cs) = let l = runs_le_ticks s n (next s σ c) cs in grind arith
 
 refilled_ran : (t : ℕ) (y : Reservation) → (refilled t y).ran ≡ y.ran
 refilled_ran t y = cond_both (is_due t y) _ _ (λ (z : Reservation). z.ran ≡ y.ran) (λ _. refl) (λ _. refl)
@@ -74,16 +70,16 @@ turn_ran n σ x =
 
 -- The ticks run of a reservation live at two times differ by its runs between.
 pub ran_since : (s : Setup) → Lawful s → (σ : System) → Basic s σ → (n : ℕ) (x : Reservation) → find n σ.live ≡ Some x → (cs : List Call) (r : Reservation) → find n (after s σ cs).live ≡ Some r → r.ran ≡ x.ran + runs s n σ cs
-ran_since s law σ b n x live [] r h = let same : x ≡ r = some_same (sym live ∙ h) in let e = ap (λ (z : Reservation). z.ran) same in omega arith
+ran_since s law σ b n x live [] r h = let same : x ≡ r = same_Some _ _ (sym live ∙ h) in let e = ap (λ (z : Reservation). z.ran) same in omega arith
 ran_since s law σ b n x live (c ∷ cs) r h = go (find n (next s σ c).live) refl (λ y e. ran_since s law (next s σ c) (basic_next s law σ c b) n y e cs r h)
   where
     go : (o : Option Reservation) → find n (next s σ c).live ≡ o → ((y : Reservation) → find n (next s σ c).live ≡ Some y → r.ran ≡ y.ran + runs s n (next s σ c) cs) → r.ran ≡ x.ran + runs s n σ (c ∷ cs)
-    go None e ih = absurd (none_some (sym (gone_after s law (next s σ c) (basic_next s law σ c b) n (turn_gone n σ x _ _ _ _ (turn s σ b n x live c) e) e cs) ∙ h))
+    go None e ih = absurd (none-some _ (sym (gone_after s law (next s σ c) (basic_next s law σ c b) n (turn_gone n σ x _ _ _ _ (turn s σ b n x live c) e) e cs) ∙ h))
     go (Some y) e ih = omega (arith, ih y e, turn_ran n σ x _ _ _ _ (turn s σ b n x live c) y e)
 
 -- The ticks run of a reservation are its runs since a time when its number was not yet given.
 ran_unborn : (s : Setup) → Lawful s → (σ : System) → Basic s σ → (n : ℕ) → σ.given < n → find n σ.live ≡ None → (cs : List Call) (r : Reservation) → find n (after s σ cs).live ≡ Some r → r.ran ≡ runs s n σ cs
-ran_unborn s law σ b n l none [] r h = absurd (none_some (sym none ∙ h))
+ran_unborn s law σ b n l none [] r h = cc
 ran_unborn s law σ b n l none (c ∷ cs) r h = go _ (next s σ c) (absence s σ b n none c) (λ k e. ran_unborn s law (next s σ c) (basic_next s law σ c b) n k e cs r h) (λ y e. ran_since s law (next s σ c) (basic_next s law σ c b) n y e cs r h)
   where
     go : (run : Bool) (σ' : System) → Absence n σ run σ' → (σ'.given < n → find n σ'.live ≡ None → r.ran ≡ runs s n σ' cs) → ((y : Reservation) → find n σ'.live ≡ Some y → r.ran ≡ y.ran + runs s n σ' cs) → r.ran ≡ cond run 1 0 + runs s n σ' cs

@@ -1,5 +1,6 @@
 -- In every replay no ready reservation has reached its deadline.
 use Rattle.std.proofs.Common.{◌≡◌, ℕ, ◌<◌, ◌≤◌, true, List, [], ◌∷◌, Some, refl, ⊎_elim, arith}
+use Rattle.std.proofs.lemmas.List.Elements.{All-nil}
 use Rattle.std.proofs.lemmas.Bool.{cases_lt, cond_both}
 use Rattle.rules.specs.declared.types.Reservation.{Reservation}
 use Rattle.rules.specs.declared.types.Call.{Call}
@@ -14,7 +15,7 @@ use Rattle.rules.proofs.Steps.{Step, admits, wakes, rests, leaves, moves, deals,
 use Rattle.rules.proofs.Basics.{Basic, fair_at, basic_next, basic}
 use Rattle.rules.proofs.Rooms.{room_named}
 use Rattle.rules.proofs.Totals.{total_found, total_none}
-use Rattle.rules.proofs.Credits.{owed, held, credit, due, none_due, claiming, waking, resting}
+use Rattle.rules.proofs.Credits.{Measured, owed, held, credit, due, none_due, claiming, waking, resting}
 use Rattle.rules.proofs.Demand.{Demand, counted_for, measured_by, stocked_by, changed, left, moved, came}
 use Rattle.rules.proofs.Ticking.{settled}
 
@@ -46,7 +47,7 @@ demand_after s law σ (c ∷ cs) b k = demand_after s law (next s σ c) cs (basi
 pub demand : (s : Setup) → Lawful s → (past : List Call) → Demand s (replay s past)
 demand s law past =
     demand_after s law (fresh s) past (basic s law [])
-    (record { gone = []; ledger = refl; measured = tt; covered = λ c d h. omega arith; fits = λ c. omega arith })
+    (record { gone = []; ledger = refl; measured = All-nil (Measured s.whole); covered = λ c d h. omega arith; fits = λ c. omega arith })
 
 -- Where the claims are covered, no ready reservation has reached its deadline: nothing is held up to the clock, and no credit.
 before_deadline : (s : Setup) → Lawful s → (σ : System) → Basic s σ → Demand s σ → (n : ℕ) (r : Reservation) → find n σ.live ≡ Some r → is_ready r.state ≡ true → σ.clock < r.deadline

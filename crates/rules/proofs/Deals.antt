@@ -1,7 +1,6 @@
 -- An accepted deal names for each core the ready reservation that goes first.
 use Rattle.std.proofs.Common.{◌≡◌, ℕ, ◌<◌, Bool, true, false, List, length, get_or, Some, None, Option, sym, refl, ap, ◌∙◌, subst}
 use Rattle.std.specs.Option.{option_map}
-use Rattle.std.proofs.lemmas.Bool.{both_ways}
 use Rattle.rules.specs.declared.types.Reservation.{Reservation}
 use Rattle.rules.specs.declared.types.Call.TheVariants.{Deal}
 use Rattle.rules.specs.declared.types.Answer.{Answer}
@@ -17,7 +16,7 @@ use Rattle.rules.proofs.Picking.{pick_found, pick_ready, pick_first, pick_none, 
 
 -- The names after an accepted deal.
 deal_names : (s : Setup) (σ : System) → accepts s σ Deal ≡ true → (next s σ Deal).names ≡ picks (length s.figures) σ.live
-deal_names s σ = by_step s σ Deal (λ t _ σ'. t ≡ true → σ'.names ≡ picks (length s.figures) σ.live) (λ _ e. absurd (both_ways false refl e)) (λ a σ' t _. go a σ' t)
+deal_names s σ = by_step s σ Deal (λ t _ σ'. t ≡ true → σ'.names ≡ picks (length s.figures) σ.live) (λ _ e. cc) (λ a σ' t _. go a σ' t)
   where
     go : (a : Answer) (σ' : System) → Step s σ Deal a σ' → σ'.names ≡ picks (length s.figures) σ.live
     go a σ' (deals settled going) = refl

@@ -1,7 +1,8 @@
 -- On every core, up to every tick, what the reservations may claim is covered by what their shares give them, and each core
 -- counts at most its bound; every call keeps this.
 use Rattle.std.proofs.Common.{◌≡◌, ℕ, ◌+◌, ◌<◌, ◌≤◌, false, cond, eqb, List, ◌∷◌, map, length, Some, ap, subst, ⊎_elim, arith}
-use Rattle.std.specs.List.{AllByRecursion}
+use Rattle.std.specs.List.{All}
+use Rattle.std.proofs.lemmas.List.Elements.{All-cons}
 use Rattle.std.proofs.lemmas.Bool.Decides.{nat_tests}
 use Rattle.std.proofs.lemmas.Bool.{ltb-false, cases_eq, cond_both}
 use Rattle.rules.specs.declared.types.Reservation.{Reservation}
@@ -38,7 +39,7 @@ counted_for c r = cond (eqb r.core c) r.parts 0
 pub record Demand (s : Setup) (σ : System) : Type 0 where
   pub gone : List Reservation
   pub ledger : σ.ledger ≡ map entry_of gone
-  pub measured : AllByRecursion (Measured s.whole) gone
+  pub measured : All (Measured s.whole) gone
   pub covered : (c d : ℕ) → c < length s.figures → owed_by s.whole c d σ.live ≤ held_by s.whole σ.clock c d σ.live + credit_by s.whole σ.clock c d gone
   pub fits : (c : ℕ) → counted σ c ≤ bound s c
 
@@ -84,7 +85,7 @@ changed s σ k n r x live claims counts = record {
 record Departure (s : Setup) (σ : System) (k : Demand s σ) (r : Reservation) (es : List Entry) : Type 0 where
   gone : List Reservation
   ledger : es ≡ map entry_of gone
-  measured : AllByRecursion (Measured s.whole) gone
+  measured : All (Measured s.whole) gone
   credits : (c d : ℕ) → credit_by s.whole σ.clock c d gone ≡ credit_by s.whole σ.clock c d k.gone + due c d r (credit s.whole σ.clock r)
   counts : (c : ℕ) → departed_parts σ.clock c es ≤ departed_parts σ.clock c σ.ledger + counted_for c r
 
@@ -94,7 +95,7 @@ departing s σ k r m =
     (λ _. record {
       gone = r ∷ k.gone;
       ledger = ap (λ es. entry_of r ∷ es) k.ledger;
-      measured = (m, k.measured);
+      measured = All-cons (Measured s.whole) r k.gone m k.measured;
       credits = λ c d. omega arith;
       counts = λ c. grind (arith, nat_tests);
     })

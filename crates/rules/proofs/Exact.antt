@@ -1,6 +1,6 @@
 -- Filled, and neither rested nor gone before its deadline, a reservation runs exactly its budget by then.
 use Rattle.std.proofs.Common.{◌≡◌, ℕ, ◌+◌, ◌-◌, ◌<◌, ◌≤◌, Bool, true, false, cond, eqb, ◌⊎◌, List, [], ◌∷◌, ◌++◌, Some, refl, ap, ◌∙◌, subst, inl, inr, arith}
-use Rattle.std.proofs.lemmas.Bool.{both_ways, ne_eqb, and_right, and_left, cond-false, cases_lt}
+use Rattle.std.proofs.lemmas.Bool.{ne_eqb, and_right, and_left, cond-false, cases_lt}
 use Rattle.rules.specs.declared.types.Reservation.{Reservation}
 use Rattle.rules.specs.declared.types.State.{State}
 use Rattle.rules.specs.declared.types.State.TheVariants.{Ready, Spent, Resting}
@@ -44,7 +44,7 @@ run_left x false some = omega arith
 ready_or_spent : (w : State) → is_resting w ≡ false → (is_ready w ≡ true) ⊎ ((is_ready w ≡ false) × (is_spent w ≡ true))
 ready_or_spent Ready e = inl refl
 ready_or_spent Spent e = inr (refl, refl)
-ready_or_spent Resting e = absurd (both_ways true e refl)
+ready_or_spent Resting e = cc
 
 not_due : (t : ℕ) (y : Reservation) → (y.deadline ≡ t → ⊥) → refilled t y ≡ y
 not_due t y d = cond-false (is_due t y) _ _ (and_right (is_spent y.state) _ (ne_eqb y.deadline t d))
@@ -54,15 +54,15 @@ ready_not_due t y e = cond-false (is_due t y) _ _ (and_left _ _ (go y.state e))
   where
     go : (w : State) → is_ready w ≡ true → is_spent w ≡ false
     go Ready e = refl
-    go Spent e = absurd (both_ways false refl e)
+    go Spent e = cc
     go Resting e = refl
 
 -- One turn of a reservation that serves until t.
 turn_exact : (s : Setup) (n t : ℕ) (σ : System) (x : Reservation) → Fair s σ.clock σ.given x → Serving t x → σ.clock < t → (stop tick run : Bool) (σ' : System) → Turn n σ x stop tick run σ' → (stop ≡ false) → InTime σ' → (rest-ticks rest-runs : ℕ) → σ.clock + (cond tick 1 0 + rest-ticks) ≡ t → rest-runs ≤ rest-ticks → ((y : Reservation) → find n σ'.live ≡ Some y → Serving t y → σ'.clock < t → σ'.clock + rest-ticks ≡ t → rest-runs ≡ y.left) → cond run 1 0 + rest-runs ≡ x.left
 turn_exact s n t σ x f i l stop tick run σ' (kept clock live) st in_time rt rr e le ih = omega (arith, ih x live i (omega arith) (omega arith))
-turn_exact s n t σ x f i l stop tick run σ' (woke clock resting live) st in_time rt rr e le ih = absurd (both_ways (is_resting x.state) i.wants resting)
-turn_exact s n t σ x f i l stop tick run σ' (stopped clock live) st in_time rt rr e le ih = absurd (both_ways true st refl)
-turn_exact s n t σ x f i l stop tick run σ' (went clock given none) st in_time rt rr e le ih = absurd (both_ways true st refl)
+turn_exact s n t σ x f i l stop tick run σ' (woke clock resting live) st in_time rt rr e le ih = cc
+turn_exact s n t σ x f i l stop tick run σ' (stopped clock live) st in_time rt rr e le ih = cc
+turn_exact s n t σ x f i l stop tick run σ' (went clock given none) st in_time rt rr e le ih = cc
 turn_exact s n t σ x f i l stop tick run σ' (moved clock core live) st in_time rt rr e le ih = omega (arith, ih (on_core x core) live (record { deadline = i.deadline; wants = i.wants }) (omega arith) (omega arith))
 turn_exact s n t σ x f i l stop tick run σ' (passed clock w ready live) st in_time rt rr e le ih = go (cases_lt (σ.clock + 1) t)
   where
@@ -99,7 +99,7 @@ exact_from s law n t σ b in_time x live i l (c ∷ cs) stays e =
 ready_wants : (w : State) → is_ready w ≡ true → is_resting w ≡ false
 ready_wants Ready e = refl
 ready_wants Spent e = refl
-ready_wants Resting e = absurd (both_ways false refl e)
+ready_wants Resting e = cc
 
 -- It runs exactly its budget from a filling to the deadline, where every ready reservation has its deadline ahead.
 pub exact_law : (s : Setup) → Lawful s → ((past : List Call) → InTime (replay s past)) → (past : List Call) (c : Call) (n q p : ℕ) (later : List Call) → Filling s (replay s past) c n q p → Stays s n ((since s past c).clock + p) (since s past c) later → ticks s (since s past c) later ≡ p → runs s n (since s past c) later ≡ q

@@ -1,7 +1,8 @@
 -- A reservation just filled: its whole budget is left, and its deadline is a period ahead.
-use Rattle.std.proofs.Common.{◌≡◌, ℕ, ◌+◌, true, false, not, eqb, List, Some, Option, sym, refl, ap, ◌∙◌, subst, arith}
+use Rattle.std.proofs.Common.{◌≡◌, ℕ, ◌+◌, true, not, eqb, List, Some, Option, sym, refl, ap, ◌∙◌, subst, arith}
 use Rattle.std.specs.Option.{option_map}
-use Rattle.std.proofs.lemmas.Bool.{both_ways, not-true, eqb-true, and_parts, cond-true, cond-false, cond_both}
+use Rattle.std.proofs.lemmas.Bool.{not-true, eqb-true, and_parts, cond-true, cond-false, cond_both}
+use Rattle.std.proofs.lemmas.Option.{same_Some}
 use Rattle.rules.specs.declared.types.Reservation.{Reservation}
 use Rattle.rules.specs.declared.types.Call.{Call}
 use Rattle.rules.specs.declared.types.Answer.{Answer}
@@ -12,7 +13,7 @@ use Rattle.rules.specs.Server.{is_ready, is_spent, filled_to, keeps, woken, char
 use Rattle.rules.specs.Replay.{next}
 use Rattle.rules.specs.Share.{fills, Filling}
 use Rattle.rules.proofs.Steps.{Step, admits, wakes, rests, leaves, moves, deals, settles, by_step}
-use Rattle.rules.proofs.Finding.{found_number, find_change_same, find_map, some_same}
+use Rattle.rules.proofs.Finding.{found_number, find_change_same, find_map}
 use Rattle.rules.proofs.Basics.{ticked_number, woken_number}
 
 -- The reservation n, whose terms are q in p, was just filled.
@@ -37,17 +38,17 @@ charged_period names x = cond_both _ _ _ (λ (z : Reservation). z.period ≡ x.p
 
 module _ (s : Setup) (σ : System) (n q p : ℕ) (x : Reservation) (live : find n σ.live ≡ Some x) (budget : x.budget ≡ q) (period : x.period ≡ p) where
   step_fills : (c : Call) (a : Answer) (σ' : System) → Step s σ c a σ' → fills σ c x ≡ true → Filled σ' n q p
-  step_fills c a σ' (admits _ _ parts core limits taken settled place number chosen) e = absurd (both_ways false refl e)
+  step_fills c a σ' (admits _ _ parts core limits taken settled place number chosen) e = cc
   step_fills c a σ' (wakes m r settled found resting) e =
       let parts = and_parts (eqb m x.number) (not (keeps σ.clock x)) e in
       let m≡n : m ≡ n = eqb-true m x.number parts.0 ∙ found_number n σ.live x live in
-      let r≡x : r ≡ x = some_same (sym found ∙ ap (λ (k : ℕ). find k σ.live) m≡n ∙ live) in
+      let r≡x : r ≡ x = same_Some _ _ (sym found ∙ ap (λ (k : ℕ). find k σ.live) m≡n ∙ live) in
       let fill : woken σ.clock r ≡ filled_to (σ.clock + x.period) x = ap (woken σ.clock) r≡x ∙ cond-false (keeps σ.clock x) _ _ (not-true (keeps σ.clock x) parts.1) in
       filled_is σ' n q p x (σ.clock + x.period) (subst (λ (k : ℕ). find k σ'.live ≡ Some (filled_to (σ.clock + x.period) x)) m≡n (find_change_same m (woken σ.clock r) r σ.live (woken_number σ.clock r ∙ found_number m σ.live r found) found ∙ ap (λ (z : Reservation). Some z) fill)) budget period (ap (λ (k : ℕ). σ.clock + k) period)
-  step_fills c a σ' (rests m r settled found wants) e = absurd (both_ways false refl e)
-  step_fills c a σ' (leaves m r settled found place) e = absurd (both_ways false refl e)
-  step_fills c a σ' (moves m core r exists settled found other ahead fits place) e = absurd (both_ways false refl e)
-  step_fills c a σ' (deals settled going) e = absurd (both_ways false refl e)
+  step_fills c a σ' (rests m r settled found wants) e = cc
+  step_fills c a σ' (leaves m r settled found place) e = cc
+  step_fills c a σ' (moves m core r exists settled found other ahead fits place) e = cc
+  step_fills c a σ' (deals settled going) e = cc
   step_fills c a σ' (settles tick out right) e =
       let y : Reservation = charged_if σ.names x in
       let d : y.deadline ≡ σ.clock + 1 = eqb-true y.deadline (σ.clock + 1) (and_parts (is_spent y.state) (eqb y.deadline (σ.clock + 1)) e).1 in
@@ -56,4 +57,4 @@ module _ (s : Setup) (σ : System) (n q p : ℕ) (x : Reservation) (live : find 
 
 -- What a filling call leaves.
 pub filled_since : (s : Setup) (σ : System) (c : Call) (n q p : ℕ) → Filling s σ c n q p → Filled (next s σ c) n q p
-filled_since s σ c n q p f = by_step s σ c (λ t _ σ'. t ≡ true → Filled σ' n q p) (λ _ e. absurd (both_ways false refl e)) (λ a σ' t _. step_fills s σ n q p f.of f.live f.budget f.period c a σ' t f.filled) f.accepted
+filled_since s σ c n q p f = by_step s σ c (λ t _ σ'. t ≡ true → Filled σ' n q p) (λ _ e. cc) (λ a σ' t _. step_fills s σ n q p f.of f.live f.budget f.period c a σ' t f.filled) f.accepted

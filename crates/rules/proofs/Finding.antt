@@ -1,10 +1,11 @@
 -- What is found by its number in a list of reservations, and what changes of the list leave of it.
-use Rattle.std.proofs.Common.{◌≡◌, ℕ, ◌<◌, ◌≤◌, Bool, true, false, cond, eqb, List, [], ◌∷◌, ◌++◌, map, is_some, Some, None, Option, sym, refl, ap, ◌∙◌, subst, arith}
+use Rattle.std.proofs.Common.{◌≡◌, ℕ, ◌<◌, ◌≤◌, Bool, true, false, cond, eqb, List, [], ◌∷◌, ◌++◌, get_or, map, Some, None, sym, refl, ◌∙◌, subst, arith}
 use Rattle.std.specs.Option.{option_map}
-use Rattle.std.specs.List.{AllByRecursion}
-use Rattle.std.proofs.lemmas.Bool.{eqb-true}
+use Rattle.std.specs.List.{All}
+use Rattle.std.proofs.lemmas.Bool.{eqb-true, cond_both}
 use Rattle.std.proofs.lemmas.Bool.Decides.{nat_tests}
-use Rattle.std.proofs.ByRecursion.{All-weaker}
+use Rattle.std.proofs.lemmas.List.Elements.{All-nil, All-cons, All-head, All-tail}
+use Rattle.std.proofs.lemmas.Option.{same_Some}
 use Rattle.rules.specs.declared.types.Reservation.{Reservation}
 use Rattle.rules.specs.Lists.{find, change, without}
 
@@ -13,27 +14,21 @@ abbrev pub Above : ℕ → List Reservation → Type 0
 Above k [] = Unit {0}
 Above k (r ∷ rs) = (k < r.number) × Above r.number rs
 
-pub none_some : {X : Type 0} {x : X} → ◌≡◌ {A = Option X} None (Some x) → ⊥
-none_some {x = x} e = let z : ◌≡◌ {A = ℕ} 0 1 = ap (λ o. cond (is_some o) 1 0) e in omega arith
-
-pub some_same : {X : Type 0} {x y : X} → ◌≡◌ {A = Option X} (Some x) (Some y) → x ≡ y
-some_same e = cc
-
 pub found_number : (n : ℕ) (rs : List Reservation) (r : Reservation) → find n rs ≡ Some r → r.number ≡ n
-found_number n [] r h = absurd (none_some h)
+found_number n [] r h = cc
 found_number n (x ∷ xs) r h = let ih = found_number n xs r in grind (arith, nat_tests)
 
 -- What holds of all holds of the one found.
-pub found_all : (P : Reservation → Type 0) (n : ℕ) (rs : List Reservation) (r : Reservation) → AllByRecursion P rs → find n rs ≡ Some r → P r
-found_all P n [] r a h = absurd (none_some h)
-found_all P n (x ∷ xs) r a h = go (eqb x.number n) (found_all P n xs r a.1) h
+pub found_all : (P : Reservation → Type 0) (n : ℕ) (rs : List Reservation) (r : Reservation) → All P rs → find n rs ≡ Some r → P r
+found_all P n [] r a h = cc
+found_all P n (x ∷ xs) r a h = go (eqb x.number n) (found_all P n xs r (All-tail P x xs a)) h
   where
     go : (t : Bool) → (find n xs ≡ Some r → P r) → cond t (Some x) (find n xs) ≡ Some r → P r
-    go true ih k = subst P (some_same k) a.0
+    go true ih k = subst P (same_Some _ _ k) (All-head P x xs a)
     go false ih k = ih k
 
 pub found_above : (k n : ℕ) (rs : List Reservation) (r : Reservation) → Above k rs → find n rs ≡ Some r → k < n
-found_above k n [] r a h = absurd (none_some h)
+found_above k n [] r a h = cc
 found_above k n (x ∷ xs) r a h = let ih = found_above x.number n xs r a.1 in let l = a.0 in grind (arith, nat_tests)
 
 -- Below all the numbers none is found.
@@ -42,7 +37,7 @@ not_found_below k n [] a l = refl
 not_found_below k n (x ∷ xs) a l = let h = a.0 in let ih = not_found_below x.number n xs a.1 (omega arith) in grind (arith, nat_tests)
 
 pub find_change_same : (n : ℕ) (r x : Reservation) (rs : List Reservation) → r.number ≡ n → find n rs ≡ Some x → find n (change n r rs) ≡ Some r
-find_change_same n r x [] e h = absurd (none_some h)
+find_change_same n r x [] e h = cc
 find_change_same n r x (y ∷ ys) e h = let ih = find_change_same n r x ys e in grind (arith, nat_tests)
 
 pub find_change_other : (m n : ℕ) (r : Reservation) (rs : List Reservation) → r.number ≡ n → (m ≡ n → ⊥) → find m (change n r rs) ≡ find m rs
@@ -70,21 +65,19 @@ pub find_map : (f : Reservation → Reservation) → ((x : Reservation) → (f x
 find_map f same n [] = refl
 find_map f same n (y ∷ ys) = let ih = find_map f same n ys in let e = same y in grind (arith, nat_tests)
 
-pub all_change : (P : Reservation → Type 0) (n : ℕ) (r : Reservation) (rs : List Reservation) → P r → AllByRecursion P rs → AllByRecursion P (change n r rs)
-all_change P n r [] p a = tt
-all_change P n r (y ∷ ys) p a = go (eqb y.number n) (all_change P n r ys p a.1)
-  where
-    go : (t : Bool) → AllByRecursion P (change n r ys) → AllByRecursion P (cond t (r ∷ ys) (y ∷ change n r ys))
-    go true ih = (p, a.1)
-    go false ih = (a.0, ih)
+pub all_change : (P : Reservation → Type 0) (n : ℕ) (r : Reservation) (rs : List Reservation) → P r → All P rs → All P (change n r rs)
+all_change P n r [] p a = a
+all_change P n r (y ∷ ys) p a =
+    cond_both (eqb y.number n) _ _ (All P)
+    (λ _. All-cons P r ys p (All-tail P y ys a))
+    (λ _. All-cons P y (change n r ys) (All-head P y ys a) (all_change P n r ys p (All-tail P y ys a)))
 
-pub all_without : (P : Reservation → Type 0) (n : ℕ) (rs : List Reservation) → AllByRecursion P rs → AllByRecursion P (without n rs)
-all_without P n [] a = tt
-all_without P n (y ∷ ys) a = go (eqb y.number n) (all_without P n ys a.1)
-  where
-    go : (t : Bool) → AllByRecursion P (without n ys) → AllByRecursion P (cond t ys (y ∷ without n ys))
-    go true ih = a.1
-    go false ih = (a.0, ih)
+pub all_without : (P : Reservation → Type 0) (n : ℕ) (rs : List Reservation) → All P rs → All P (without n rs)
+all_without P n [] a = a
+all_without P n (y ∷ ys) a =
+    cond_both (eqb y.number n) _ _ (All P)
+    (λ _. All-tail P y ys a)
+    (λ _. All-cons P y (without n ys) (All-head P y ys a) (all_without P n ys (All-tail P y ys a)))
 
 pub above_weaker : (j k : ℕ) (rs : List Reservation) → j ≤ k → Above k rs → Above j rs
 above_weaker j k [] l a = tt
@@ -109,9 +102,9 @@ above_without k n (y ∷ ys) a = go (eqb y.number n) (above_without y.number n y
     go true ih = let l = a.0 in above_weaker k y.number ys (omega arith) a.1
     go false ih = (a.0, ih)
 
-pub above_push : (k g : ℕ) (rs : List Reservation) (r : Reservation) → Above k rs → AllByRecursion (λ x. x.number ≤ g) rs → k ≤ g → g < r.number → Above k (rs ++ r ∷ [])
+pub above_push : (k g : ℕ) (rs : List Reservation) (r : Reservation) → Above k rs → All (λ x. x.number ≤ g) rs → k ≤ g → g < r.number → Above k (rs ++ r ∷ [])
 above_push k g [] r a b l h = (omega arith, tt)
-above_push k g (y ∷ ys) r a b l h = (a.0, above_push y.number g ys r a.1 b.1 b.0 h)
+above_push k g (y ∷ ys) r a b l h = (a.0, above_push y.number g ys r a.1 (All-tail (λ x. x.number ≤ g) y ys b) (All-head (λ x. x.number ≤ g) y ys b) h)
 
 pub above_map : (f : Reservation → Reservation) → ((x : Reservation) → (f x).number ≡ x.number) → (k : ℕ) (rs : List Reservation) → Above k rs → Above k (map f rs)
 above_map f same k [] a = tt
@@ -120,18 +113,16 @@ above_map f same k (y ∷ ys) a =
     let l = a.0 in
     (omega arith, subst (λ (m : ℕ). Above m (map f ys)) (sym e) (above_map f same y.number ys a.1))
 
-above_all : (k : ℕ) (rs : List Reservation) → Above k rs → AllByRecursion (λ x. k < x.number) rs
-above_all k [] a = tt
-above_all k (y ∷ ys) a = (a.0, above_all k ys (above_weaker k y.number ys (let l = a.0 in omega arith) a.1))
-
-all_both : (P Q : Reservation → Type 0) (rs : List Reservation) → AllByRecursion P rs → AllByRecursion Q rs → AllByRecursion (λ x. P x × Q x) rs
-all_both P Q [] a b = tt
-all_both P Q (x ∷ xs) a b = ((a.0, b.0), all_both P Q xs a.1 b.1)
+above_all : (k : ℕ) (rs : List Reservation) → Above k rs → All (λ x. k < x.number) rs
+above_all k [] a = All-nil (λ x. k < x.number)
+above_all k (y ∷ ys) a = All-cons (λ x. k < x.number) y ys a.0 (above_all k ys (above_weaker k y.number ys (let l = a.0 in omega arith) a.1))
 
 -- Each one is found under its number.
-pub each_found : (k : ℕ) (rs : List Reservation) → Above k rs → AllByRecursion (λ x. find x.number rs ≡ Some x) rs
-each_found k [] a = tt
-each_found k (y ∷ ys) a = (grind (arith, nat_tests), All-weaker (λ x. (y.number < x.number) × (find x.number ys ≡ Some x)) (λ x. find x.number (y ∷ ys) ≡ Some x) (λ x b. past x b.0 b.1) ys (all_both _ _ ys (above_all y.number ys a.1) (each_found y.number ys a.1)))
+pub each_found : (k : ℕ) (rs : List Reservation) → Above k rs → All (λ x. find x.number rs ≡ Some x) rs
+each_found k [] a = All-nil (λ x. find x.number [] ≡ Some x)
+each_found k (y ∷ ys) a =
+    All-cons (λ x. find x.number (y ∷ ys) ≡ Some x) y ys (grind (arith, nat_tests))
+    (λ i d l. past (get_or ys i d) (above_all y.number ys a.1 i d l) (each_found y.number ys a.1 i d l))
   where
     past : (x : Reservation) → y.number < x.number → find x.number ys ≡ Some x → find x.number (y ∷ ys) ≡ Some x
     past x l h = grind (arith, nat_tests)

@@ -1,7 +1,8 @@
 -- A live reservation runs at most its share: since a filling its runs × period are covered by what budget × deadline − left × period has
 -- risen, and the deadline is at most a period ahead.
 use Rattle.std.proofs.Common.{◌≡◌, ℕ, ◌+◌, ◌-◌, ◌*◌, ◌/◌, ◌<◌, ◌≤◌, Bool, true, false, cond, ◌&&◌, ◌⊎◌, List, [], ◌∷◌, is_some, Some, None, Option, sym, refl, ap, ◌∙◌, subst, subst₂, inl, inr, add-zero, add_assoc, mul-le-mul_left, le-div_iff_mul-le, zero-add, arith}
-use Rattle.std.proofs.lemmas.Bool.{both_ways, ltb-false, and_parts, cond_both, cases_lt}
+use Rattle.std.proofs.lemmas.Bool.{ltb-false, and_parts, cond_both, cases_lt}
+use Rattle.std.proofs.lemmas.Option.{none-some, same_Some}
 use Rattle.rules.specs.declared.types.Reservation.{Reservation}
 use Rattle.rules.specs.declared.types.Call.{Call}
 use Rattle.rules.specs.Lists.{find}
@@ -10,7 +11,6 @@ use Rattle.rules.specs.System.{System}
 use Rattle.rules.specs.Server.{is_spent, keeps, woken, filled_to, charged, is_due, refilled}
 use Rattle.rules.specs.Replay.{next, accepts, after, replay}
 use Rattle.rules.specs.Share.{is_settle, is_named, ticks, runs, Filling, since, Lawful}
-use Rattle.rules.proofs.Finding.{none_some, some_same}
 use Rattle.rules.proofs.Basics.{Basic, Fair, limited, fair_at, fair_run, basic, basic_next, basic_after}
 use Rattle.rules.proofs.Turns.{Turn, turn, by_turn, turn_gone}
 use Rattle.rules.proofs.Absences.{gone_after}
@@ -72,14 +72,14 @@ turn_paid s σ n x f q p t k i =
     none_run y j = subst (λ (m : ℕ). Paid q p t m y) (sym (add-zero k)) j
 
 paid_after : (s : Setup) → Lawful s → (σ : System) → Basic s σ → (n : ℕ) (x : Reservation) → find n σ.live ≡ Some x → (q p t k : ℕ) → Paid q p t k x → (cs : List Call) (r : Reservation) → find n (after s σ cs).live ≡ Some r → Paid q p t (k + runs s n σ cs) r
-paid_after s law σ b n x live q p t k i [] r h = subst₂ (λ (m : ℕ) (y : Reservation). Paid q p t m y) (sym (add-zero k)) (some_same (sym live ∙ h)) i
+paid_after s law σ b n x live q p t k i [] r h = subst₂ (λ (m : ℕ) (y : Reservation). Paid q p t m y) (sym (add-zero k)) (same_Some _ _ (sym live ∙ h)) i
 paid_after s law σ b n x live q p t k i (c ∷ cs) r h = go (find n (next s σ c).live) refl (λ y e j. paid_after s law (next s σ c) (basic_next s law σ c b) n y e q p t (k + ran) j cs r h)
   where
     ran : ℕ
     ran = cond (is_settle c && accepts s σ c && is_named n σ.names) 1 0
 
     go : (o : Option Reservation) → find n (next s σ c).live ≡ o → ((y : Reservation) → find n (next s σ c).live ≡ Some y → Paid q p t (k + ran) y → Paid q p t (k + ran + runs s n (next s σ c) cs) r) → Paid q p t (k + runs s n σ (c ∷ cs)) r
-    go None e ih = absurd (none_some (sym (gone_after s law (next s σ c) (basic_next s law σ c b) n (turn_gone n σ x _ _ _ _ (turn s σ b n x live c) e) e cs) ∙ h))
+    go None e ih = absurd (none-some _ (sym (gone_after s law (next s σ c) (basic_next s law σ c b) n (turn_gone n σ x _ _ _ _ (turn s σ b n x live c) e) e cs) ∙ h))
     go (Some y) e ih = subst (λ (m : ℕ). Paid q p t m r) (add_assoc k ran (runs s n (next s σ c) cs)) (ih y e (turn_paid s σ n x (fair_at s σ b n x live) q p t k i _ _ _ _ (turn s σ b n x live c) y e))
 
 most_ran : (p q t k m left d : ℕ) → 1 ≤ p → k * p + q * t + left * p ≤ q * d → d ≤ t + m + p → k ≤ q * (m + p) / p
@@ -102,7 +102,7 @@ most_law s law past c n q p later f h = go (find n (after s σ later).live) refl
     paid = record { budget = x.budget; period = x.period; paid = omega (arith, ap (λ (m : ℕ). m * p) x.whole, ap (λ (m : ℕ). q * m) x.due) }
 
     go : (o : Option Reservation) → find n (after s σ later).live ≡ o → is_some o ≡ true → runs s n σ later ≤ q * (ticks s σ later + p) / p
-    go None e k = absurd (both_ways false refl k)
+    go None e k = cc
     go (Some r) e k =
         let i = paid_after s law σ b n x.of x.live q p σ.clock 0 paid later r e in
         let fair = fair_at s (after s σ later) (basic_after s law σ later b) n r e in

@@ -41,7 +41,7 @@ module _ (s : Setup) (law : Lawful s) (σ : System) (q p parts : ℕ) (asked : O
   none_placed : (o : Option ℕ) → answer_of (placed o) ≡ Refused NoRoom → o ≡ None
   unfolding placed
   none_placed None e = refl
-  none_placed (Some core) e = let z : ◌≡◌ {A = ℕ} 0 1 = cc in absurd (omega arith)
+  none_placed (Some core) e = cc
 
   none_refused : answer_of (placed None) ≡ Refused NoRoom
   unfolding placed

@@ -2,10 +2,10 @@
 -- most what the core counts; on a core with none ready that is due up to d, the claims after the tick are those just filled.
 use Rattle.std.proofs.Common.{◌≡◌, ℕ, suc, ◌+◌, ◌*◌, ◌/◌, ◌<◌, ◌≤◌, Bool, true, false, cond, ◌&&◌, eqb, ltb, List, [], ◌∷◌, map, length, get_or, Some, None, filter, Option, sym, refl, ap, ◌∙◌, ⊎_elim, le_of_eq, mul-le-mul_left, arith}
 use Rattle.std.specs.Option.{option_map}
-use Rattle.std.specs.List.{AllByRecursion}
+use Rattle.std.specs.List.{All}
 use Rattle.std.proofs.lemmas.Bool.Decides.{nat_tests}
 use Rattle.std.proofs.lemmas.Bool.{ltb-false, eqb-true, and_parts, and_from, eq-eqb, cases_lt, cond_both}
-use Rattle.std.proofs.ByRecursion.{All-weaker, all_kept_by}
+use Rattle.std.proofs.lemmas.List.Elements.{All-weaker, All-filter}
 use Rattle.rules.specs.declared.types.Reservation.{Reservation}
 use Rattle.rules.specs.declared.types.Entry.{Entry}
 use Rattle.rules.specs.Lists.{total, find}
@@ -13,14 +13,14 @@ use Rattle.rules.specs.Setup.{Setup, figures_fit, making}
 use Rattle.rules.specs.System.{System}
 use Rattle.rules.specs.Parts.{live_parts, departed_parts, counted, bound}
 use Rattle.rules.specs.Server.{is_ready, is_name, charged, charged_if, is_due, refilled, lapse, entry_of}
-use Rattle.rules.specs.Dealing.{is_ready_on, pick, picks}
+use Rattle.rules.specs.Dealing.{is_ready_on, goes_first, pick, picks}
 use Rattle.rules.specs.Calls.{ticked}
 use Rattle.rules.specs.Share.{Lawful}
 use Rattle.rules.proofs.Finding.{found_all, each_found}
 use Rattle.rules.proofs.Basics.{Basic, fair_at}
 use Rattle.rules.proofs.Picking.{pick_found, pick_ready, pick_first, pick_none, get_or_picks, name_ready}
 use Rattle.rules.proofs.Weights.{one, weight, weight_whole, weight_sum}
-use Rattle.rules.proofs.Totals.{total_map, total_le, total_sum, total_kept, total_found, all_anyway, kept_map, total_weight}
+use Rattle.rules.proofs.Totals.{total_map, total_le, total_sum, total_kept, total_found, kept_map, total_weight}
 use Rattle.rules.proofs.Credits.{Measured, owed, held, credit, due, lapsed, passing, charging, calm, fading}
 use Rattle.rules.proofs.Demand.{Demand, owed_by, held_by, credit_by, counted_for, measured_by, stocked_by}
 
@@ -125,7 +125,7 @@ module _ (s : Setup) (law : Lawful s) (σ : System) (b : Basic s σ) (out : σ.o
   abbrev heavy : Reservation → ℕ
   heavy r = cond (eqb r.core c) (weight r.parts) 0
 
-  found : AllByRecursion (λ r. find r.number σ.live ≡ Some r) σ.live
+  found : All (λ r. find r.number σ.live ≡ Some r) σ.live
   found = each_found 0 σ.live b.ascending
 
   -- The one picked is charged a tick.
@@ -176,10 +176,10 @@ module _ (s : Setup) (law : Lawful s) (σ : System) (b : Basic s σ) (out : σ.o
   covered_tick = go (pick c σ.live) refl
     where
       go : (o : Option Reservation) → pick c σ.live ≡ o → Covered
-      go None e = idle_core λ r found ready. absurd (found_all _ r.number σ.live r (pick_none c σ.live e) found ready)
+      go None e = idle_core λ r found ready. absurd (found_all (λ x. is_ready_on c x ≡ true → ⊥) r.number σ.live r (pick_none c σ.live e) found ready)
       go (Some p) e =
           ⊎_elim
-          (λ (far : d < p.deadline). idle_core λ r found ready. let first = found_all _ r.number σ.live r (pick_first c σ.live p e) found ready in let sooner : p.deadline ≤ r.deadline = grind (arith, nat_tests) in omega arith)
+          (λ (far : d < p.deadline). idle_core λ r found ready. let first = found_all (λ x. is_ready_on c x ≡ true → goes_first p x ≡ true) r.number σ.live r (pick_first c σ.live p e) found ready in let sooner : p.deadline ≤ r.deadline = grind (arith, nat_tests) in omega arith)
           (λ (near : p.deadline ≤ d). served_core p e near)
           (cases_lt d p.deadline)
 
@@ -189,9 +189,9 @@ counted_tick σ c =
     omega (
       arith,
       total_map (counted_for c) (passed σ) σ.live,
-      total_le (λ r. counted_for c (passed σ r)) (counted_for c) σ.live (all_anyway _ same σ.live),
-      total_kept (λ e. cond (eqb e.core c && ltb (σ.clock + 1) e.lapse) e.parts 0) (λ e. ltb (σ.clock + 1) e.lapse) σ.ledger (all_anyway _ (λ e. gone e) σ.ledger),
-      total_le (λ e. cond (eqb e.core c && ltb (σ.clock + 1) e.lapse) e.parts 0) (λ e. cond (eqb e.core c && ltb σ.clock e.lapse) e.parts 0) σ.ledger (all_anyway _ (λ e. fewer e) σ.ledger),
+      total_le (λ r. counted_for c (passed σ r)) (counted_for c) σ.live (λ k d _. same (get_or σ.live k d)),
+      total_kept (λ e. cond (eqb e.core c && ltb (σ.clock + 1) e.lapse) e.parts 0) (λ e. ltb (σ.clock + 1) e.lapse) σ.ledger (λ k d _. gone (get_or σ.ledger k d)),
+      total_le (λ e. cond (eqb e.core c && ltb (σ.clock + 1) e.lapse) e.parts 0) (λ e. cond (eqb e.core c && ltb σ.clock e.lapse) e.parts 0) σ.ledger (λ k d _. fewer (get_or σ.ledger k d)),
     )
   where
     same : (r : Reservation) → counted_for c (passed σ r) ≤ counted_for c r
@@ -210,7 +210,7 @@ pub settled : (s : Setup) → Lawful s → (σ : System) → Basic s σ → σ.o
 settled s law σ b out k = record {
   gone = lasting σ k.gone;
   ledger = ap (filter (λ e. ltb (σ.clock + 1) e.lapse)) k.ledger ∙ kept_map _ entry_of k.gone;
-  measured = all_kept_by _ (Measured s.whole) k.gone k.measured;
+  measured = All-filter _ (Measured s.whole) k.gone k.measured;
   covered = λ c d core. covered_tick s law σ b out k c d core;
   fits = λ c. omega (arith, k.fits c, counted_tick σ c);
 }

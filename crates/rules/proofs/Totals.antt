@@ -1,6 +1,8 @@
 -- Sums over a list: of one element more, one changed, one gone, some kept, and of two sums element by element.
-use Rattle.std.proofs.Common.{◌≡◌, ℕ, ◌+◌, ◌≤◌, Bool, true, false, cond, eqb, List, [], ◌∷◌, ◌++◌, map, Some, None, Option, sym, refl, ap, arith}
-use Rattle.std.specs.List.{filter, AllByRecursion}
+use Rattle.std.proofs.Common.{◌≡◌, ℕ, ◌+◌, ◌≤◌, Bool, false, cond, List, [], ◌∷◌, ◌++◌, map, Some, sym, refl, ap, arith}
+use Rattle.std.specs.List.{filter, All}
+use Rattle.std.proofs.lemmas.List.Elements.{All-head, All-tail}
+use Rattle.std.proofs.lemmas.Bool.Decides.{nat_tests}
 use Rattle.rules.specs.declared.types.Reservation.{Reservation}
 use Rattle.rules.specs.Lists.{total, find, change, without}
 use Rattle.rules.proofs.Weights.{weight, weight_none, weight_sum}
@@ -14,9 +16,9 @@ total_map f g [] = refl
 total_map f g (x ∷ xs) = ap (λ (n : ℕ). f (g x) + n) (total_map f g xs)
 
 -- Element by element.
-pub total_le : {X : Type 0} (f g : X → ℕ) (xs : List X) → AllByRecursion (λ x. f x ≤ g x) xs → total f xs ≤ total g xs
+pub total_le : {X : Type 0} (f g : X → ℕ) (xs : List X) → All (λ x. f x ≤ g x) xs → total f xs ≤ total g xs
 total_le f g [] h = omega arith
-total_le f g (x ∷ xs) (h, hs) = omega (arith, h, total_le f g xs hs)
+total_le f g (x ∷ xs) h = omega (arith, All-head (λ y. f y ≤ g y) x xs h, total_le f g xs (All-tail (λ y. f y ≤ g y) x xs h))
 
 pub total_none : {X : Type 0} (f : X → ℕ) → ((x : X) → f x ≡ 0) → (xs : List X) → total f xs ≡ 0
 total_none f h [] = refl
@@ -27,62 +29,39 @@ total_sum f g [] = refl
 total_sum f g (x ∷ xs) = omega (arith, total_sum f g xs)
 
 -- What does not pass counts nothing.
-pub total_kept : {X : Type 0} (f : X → ℕ) (p : X → Bool) (xs : List X) → AllByRecursion (λ x. p x ≡ false → f x ≡ 0) xs → total f (filter p xs) ≡ total f xs
+pub total_kept : {X : Type 0} (f : X → ℕ) (p : X → Bool) (xs : List X) → All (λ x. p x ≡ false → f x ≡ 0) xs → total f (filter p xs) ≡ total f xs
 total_kept f p [] h = refl
-total_kept f p (x ∷ xs) (h, hs) = go (p x) refl (total_kept f p xs hs)
-  where
-    go : (b : Bool) → p x ≡ b → total f (filter p xs) ≡ total f xs → total f (cond b (x ∷ filter p xs) (filter p xs)) ≡ f x + total f xs
-    go true e more = ap (λ (n : ℕ). f x + n) more
-    go false e more = omega (arith, h e)
+total_kept f p (x ∷ xs) h =
+    let here = All-head (λ y. p y ≡ false → f y ≡ 0) x xs h in
+    let more = total_kept f p xs (All-tail (λ y. p y ≡ false → f y ≡ 0) x xs h) in
+    grind arith
 
 module _ (f : Reservation → ℕ) (n : ℕ) (r : Reservation) where
-  none_found : {P : Type 0} → ◌≡◌ {A = Option Reservation} None (Some r) → P
-  none_found h = let z : ◌≡◌ {A = ℕ} 0 1 = cc in absurd (omega arith)
-
-  same_found : (x : Reservation) → Some x ≡ Some r → f x ≡ f r
-  same_found x h = cc
-
   -- One reservation in the place of another.
   pub total_change : (x : Reservation) (xs : List Reservation) → find n xs ≡ Some r → total f (change n x xs) + f r ≡ total f xs + f x
-  total_change x [] h = none_found h
-  total_change x (y ∷ ys) h = go (eqb y.number n) h (total_change x ys)
-    where
-      go : (b : Bool) → cond b (Some y) (find n ys) ≡ Some r → (find n ys ≡ Some r → total f (change n x ys) + f r ≡ total f ys + f x) → total f (cond b (x ∷ ys) (y ∷ change n x ys)) + f r ≡ f y + total f ys + f x
-      go true e more = omega (arith, same_found y e)
-      go false e more = omega (arith, more e)
+  total_change x [] h = cc
+  total_change x (y ∷ ys) h = let more = total_change x ys in grind (arith, nat_tests)
 
   -- One reservation less.
   pub total_without : (xs : List Reservation) → find n xs ≡ Some r → total f (without n xs) + f r ≡ total f xs
-  total_without [] h = none_found h
-  total_without (y ∷ ys) h = go (eqb y.number n) h (total_without ys)
-    where
-      go : (b : Bool) → cond b (Some y) (find n ys) ≡ Some r → (find n ys ≡ Some r → total f (without n ys) + f r ≡ total f ys) → total f (cond b ys (y ∷ without n ys)) + f r ≡ f y + total f ys
-      go true e more = omega (arith, same_found y e)
-      go false e more = omega (arith, more e)
+  total_without [] h = cc
+  total_without (y ∷ ys) h = let more = total_without ys in grind (arith, nat_tests)
 
   -- A reservation found counts.
   pub total_found : (xs : List Reservation) → find n xs ≡ Some r → f r ≤ total f xs
   total_found xs h = omega (arith, total_without xs h)
 
--- What holds of anything holds of each.
-pub all_anyway : {X : Type 0} (P : X → Type 0) → ((x : X) → P x) → (xs : List X) → AllByRecursion P xs
-all_anyway P h [] = tt
-all_anyway P h (x ∷ xs) = (h x, all_anyway P h xs)
-
 -- A filter of a mapped list filters what was mapped.
 pub kept_map : {X Y : Type 0} (p : Y → Bool) (f : X → Y) (xs : List X) → filter p (map f xs) ≡ map f (filter (λ x. p (f x)) xs)
 kept_map p f [] = refl
-kept_map p f (x ∷ xs) = go (p (f x)) (kept_map p f xs)
-  where
-    go : (b : Bool) → filter p (map f xs) ≡ map f (filter (λ x. p (f x)) xs) → cond b (f x ∷ filter p (map f xs)) (filter p (map f xs)) ≡ map f (cond b (x ∷ filter (λ x. p (f x)) xs) (filter (λ x. p (f x)) xs))
-    go true more = ap (λ ys. f x ∷ ys) more
-    go false more = more
+kept_map p f (x ∷ xs) = let more = kept_map p f xs in grind arith
 
 -- The weights of the parts that pass are the weight of their sum.
 pub total_weight : {X : Type 0} (p : X → Bool) (parts : X → ℕ) (xs : List X) → total (λ x. cond (p x) (weight (parts x)) 0) xs ≡ weight (total (λ x. cond (p x) (parts x) 0) xs)
 total_weight p parts [] = sym weight_none
-total_weight p parts (x ∷ xs) = go (p x) (total_weight p parts xs)
-  where
-    go : (b : Bool) → total (λ x. cond (p x) (weight (parts x)) 0) xs ≡ weight (total (λ x. cond (p x) (parts x) 0) xs) → cond b (weight (parts x)) 0 + total (λ x. cond (p x) (weight (parts x)) 0) xs ≡ weight (cond b (parts x) 0 + total (λ x. cond (p x) (parts x) 0) xs)
-    go true more = omega (arith, weight_sum (parts x) (total (λ x. cond (p x) (parts x) 0) xs))
-    go false more = omega (arith, weight_none, weight_sum 0 (total (λ x. cond (p x) (parts x) 0) xs))
+total_weight p parts (x ∷ xs) =
+    let more = total_weight p parts xs in
+    let rest = total (λ y. cond (p y) (parts y) 0) xs in
+    let one = weight_sum (parts x) rest in
+    let none = weight_sum 0 rest in
+    grind (arith, weight_none)

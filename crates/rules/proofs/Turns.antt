@@ -2,6 +2,7 @@
 use Rattle.std.proofs.Common.{◌≡◌, ℕ, ◌+◌, ◌<◌, ◌≤◌, Bool, true, false, cond, ◌&&◌, eqb, ◌⊎◌, List, length, get_or, Some, None, Option, sym, refl, ap, ◌∙◌, subst, inl, inr, arith}
 use Rattle.std.specs.Option.{option_map}
 use Rattle.std.proofs.lemmas.Bool.{eqb-true, eqb-false, cases_eq}
+use Rattle.std.proofs.lemmas.Option.{same_Some}
 use Rattle.rules.specs.declared.types.Reservation.{Reservation}
 use Rattle.rules.specs.declared.types.Call.{Call}
 use Rattle.rules.specs.declared.types.Answer.{Answer}
@@ -13,7 +14,7 @@ use Rattle.rules.specs.Dealing.{picks}
 use Rattle.rules.specs.Replay.{next, accepts}
 use Rattle.rules.specs.Share.{is_settle, stops, is_named}
 use Rattle.rules.proofs.Steps.{Step, admits, wakes, rests, leaves, moves, deals, settles, by_step}
-use Rattle.rules.proofs.Finding.{none_some, some_same, found_number, find_change_same, find_change_other, find_without_same, find_without_other, find_push_other, find_map}
+use Rattle.rules.proofs.Finding.{found_number, find_change_same, find_change_other, find_without_same, find_without_other, find_push_other, find_map}
 use Rattle.rules.proofs.Basics.{Basic, fair_at, woken_number, ticked_number}
 use Rattle.rules.proofs.Picking.{named_on_core, name_ready}
 
@@ -35,7 +36,7 @@ module _ (s : Setup) (σ : System) (b : Basic s σ) (n : ℕ) (x : Reservation) 
 
   -- A call on n is a call on x.
   same_one : (m : ℕ) (r : Reservation) → find m σ.live ≡ Some r → n ≡ m → r ≡ x
-  same_one m r found e = some_same (sym found ∙ ap (λ (k : ℕ). find k σ.live) (sym e) ∙ live)
+  same_one m r found e = same_Some _ _ (sym found ∙ ap (λ (k : ℕ). find k σ.live) (sym e) ∙ live)
 
   module _ (f : Reservation → Reservation) (keep : (y : Reservation) → (f y).number ≡ y.number) (m : ℕ) (r : Reservation) (found : find m σ.live ≡ Some r) where
     find_changed : n ≡ m → find n (change m (f r) σ.live) ≡ Some (f x)
@@ -92,18 +93,18 @@ module _ (s : Setup) (σ : System) (b : Basic s σ) (n : ℕ) (x : Reservation) 
 
 -- What holds of the reservation after each kind of turn holds of the one found in the next state.
 pub by_turn : (n : ℕ) (σ : System) (x : Reservation) (P : Bool → Reservation → Type 0) → P false x → (is_resting x.state ≡ true → P false (woken σ.clock x)) → P false (rested x) → ((core : ℕ) → P false (on_core x core)) → ((run : Bool) → (run ≡ true → is_ready x.state ≡ true) → P run (refilled (σ.clock + 1) (cond run (charged x) x))) → (stop tick run : Bool) (σ' : System) → Turn n σ x stop tick run σ' → (y : Reservation) → find n σ'.live ≡ Some y → P run y
-by_turn n σ x P as_is by-wake by-rest by_move by-tick stop tick run σ' (kept clock live) y h = subst (P false) (some_same (sym live ∙ h)) as_is
-by_turn n σ x P as_is by-wake by-rest by_move by-tick stop tick run σ' (woke clock resting live) y h = subst (P false) (some_same (sym live ∙ h)) (by-wake resting)
-by_turn n σ x P as_is by-wake by-rest by_move by-tick stop tick run σ' (stopped clock live) y h = subst (P false) (some_same (sym live ∙ h)) by-rest
-by_turn n σ x P as_is by-wake by-rest by_move by-tick stop tick run σ' (went clock given none) y h = absurd (none_some (sym none ∙ h))
-by_turn n σ x P as_is by-wake by-rest by_move by-tick stop tick run σ' (moved clock core live) y h = subst (P false) (some_same (sym live ∙ h)) (by_move core)
-by_turn n σ x P as_is by-wake by-rest by_move by-tick stop tick run σ' (passed clock w ready live) y h = subst (P w) (some_same (sym live ∙ h)) (by-tick w ready)
+by_turn n σ x P as_is by-wake by-rest by_move by-tick stop tick run σ' (kept clock live) y h = subst (P false) (same_Some _ _ (sym live ∙ h)) as_is
+by_turn n σ x P as_is by-wake by-rest by_move by-tick stop tick run σ' (woke clock resting live) y h = subst (P false) (same_Some _ _ (sym live ∙ h)) (by-wake resting)
+by_turn n σ x P as_is by-wake by-rest by_move by-tick stop tick run σ' (stopped clock live) y h = subst (P false) (same_Some _ _ (sym live ∙ h)) by-rest
+by_turn n σ x P as_is by-wake by-rest by_move by-tick stop tick run σ' (went clock given none) y h = cc
+by_turn n σ x P as_is by-wake by-rest by_move by-tick stop tick run σ' (moved clock core live) y h = subst (P false) (same_Some _ _ (sym live ∙ h)) (by_move core)
+by_turn n σ x P as_is by-wake by-rest by_move by-tick stop tick run σ' (passed clock w ready live) y h = subst (P w) (same_Some _ _ (sym live ∙ h)) (by-tick w ready)
 
 -- One that is not live any more has left.
 pub turn_gone : (n : ℕ) (σ : System) (x : Reservation) (stop tick run : Bool) (σ' : System) → Turn n σ x stop tick run σ' → find n σ'.live ≡ None → n ≤ σ'.given
-turn_gone n σ x stop tick run σ' (kept clock live) h = absurd (none_some (sym h ∙ live))
-turn_gone n σ x stop tick run σ' (woke clock resting live) h = absurd (none_some (sym h ∙ live))
-turn_gone n σ x stop tick run σ' (stopped clock live) h = absurd (none_some (sym h ∙ live))
+turn_gone n σ x stop tick run σ' (kept clock live) h = cc
+turn_gone n σ x stop tick run σ' (woke clock resting live) h = cc
+turn_gone n σ x stop tick run σ' (stopped clock live) h = cc
 turn_gone n σ x stop tick run σ' (went clock given none) h = given
-turn_gone n σ x stop tick run σ' (moved clock core live) h = absurd (none_some (sym h ∙ live))
-turn_gone n σ x stop tick run σ' (passed clock w ready live) h = absurd (none_some (sym h ∙ live))
+turn_gone n σ x stop tick run σ' (moved clock core live) h = cc
+turn_gone n σ x stop tick run σ' (passed clock w ready live) h = cc

@@ -12,14 +12,6 @@ impl Order for Entry {
     ghost total = { total_by entry_figures (λ x y e. Prim.grind arith) };
 
     fn at_most(self, other: Entry) -> bool {
-        if self.lapse != other.lapse {
-            self.lapse < other.lapse
-        } else if self.number != other.number {
-            self.number < other.number
-        } else if self.core != other.core {
-            self.core < other.core
-        } else {
-            self.parts <= other.parts
-        }
+        self <= other
     }
 }

@@ -2,7 +2,7 @@
 use terms::Refusal;
 
 // What a reservation wants: a ready one has budget left, a spent one has none, a resting one wants no ticks.
-#[derive(Clone, Copy, Debug, Default, PartialEq)]
+#[derive(Clone, Copy, Debug, Default, PartialEq, Eq)]
 pub enum State {
     Ready,
     Spent,
@@ -11,7 +11,7 @@ pub enum State {
 }
 
 // A live reservation: its terms, its parts as measured on admission, its core, the budget left, the deadline and the ticks run.
-#[derive(Clone, Copy, Debug, Default, PartialEq)]
+#[derive(Clone, Copy, Debug, Default, PartialEq, Eq)]
 pub struct Reservation {
     pub number: u32,
     pub budget: u32,
@@ -25,7 +25,7 @@ pub struct Reservation {
 }
 
 // What a core still counts of a reservation that left it, until the lapse tick.
-#[derive(Clone, Copy, Debug, PartialEq)]
+#[derive(Clone, Copy, Debug, PartialEq, Eq, PartialOrd, Ord)]
 pub struct Entry {
     pub lapse: u32,
     pub number: u32,
@@ -34,7 +34,7 @@ pub struct Entry {
 }
 
 // A call with what it is given; a settle is given the tick that its round bears.
-#[derive(Clone, Copy, Debug, PartialEq)]
+#[derive(Clone, Copy, Debug, PartialEq, Eq)]
 pub enum Call {
     Admit(u32, u32),
     Wake(u32),
@@ -47,7 +47,7 @@ pub enum Call {
 
 // What a call answers: number and core; state and deadline; the budget left; the lapse tick of the parts left behind, or that
 // they are free; the tick of the round dealt; the clock; or a refusal.
-#[derive(Clone, Copy, Debug, PartialEq)]
+#[derive(Clone, Copy, Debug, PartialEq, Eq)]
 pub enum Answer {
     Placed(u32, u32),
     Awake(State, u32),

@@ -1,25 +1,14 @@
-use Rattle.std.proofs.Common.{sym, ap, rules}
-use Rattle.calendar.specs.Queues.{first, queue}
+use Rattle.std.proofs.Common.{◌≡◌, length, get_or, Some, None, rules}
+use Rattle.std.specs.Option.{MatchOption}
 use Rattle.calendar.specs.Places.{held, LeastAt}
-use Rattle.calendar.proofs.Steps.{nothing, least_first, least_is}
+use Rattle.calendar.proofs.Steps.{least_is, least_read}
 use Rattle.calendar.proofs.Calendar.least.Goals as goal
-
-pub returns-then-n-eq0 : goal.returns-then-n-eq0
-returns-then-n-eq0 g c =
-    let cal = c.args.self.now in
-    let xs = c.args.places.now in
-    let none = nothing xs cal.count _ c.within-n.ensures c.if-n-eq0.true in
-    let is = sym (ap (λ q. first (queue g.T.Order.before q)) none) in
-    record { answer = is; least = least_is g.met.T.Order.total (held cal xs) _ is }
 
 pub returns : goal.returns
 returns g c =
     let o = g.met.T.Order.total in
-    let cal = c.args.self.now in
-    let xs = c.args.places.now in
-    let n = c.within-n.result in
-    let place = c.least_place.result in
-    let lowest : LeastAt g.T.Order.before xs n place = search rules in
-    let split = least_first o xs cal.count n place c.index-places-least_place.result c.within-n.ensures lowest c.index-places-least_place.is in
-    let is = sym (ap first split) in
-    record { answer = is; least = least_is o (held cal xs) _ is }
+    let xs = held c.args.self.now c.args.places.now in
+    let at : MatchOption c.least_place.result (length xs ≡ 0) (LeastAt g.T.Order.before xs (length xs)) = search rules in
+    let read : MatchOption c.least_place.result (c.map.result ≡ None) (λ p. (x : g.row.T.Denot) × (c.map.result ≡ Some x) × (x ≡ get_or xs p x)) = search rules in
+    let is = least_read o xs _ _ at read in
+    record { answer = is; least = least_is o xs _ is }
