@@ -1,133 +1,164 @@
--- One call of a run: what is told of it, and the round in hand after it.
-use Rattle.std.proofs.Common.{◌≡◌, ℕ, true, false, cond, List, [], ◌∷◌, ◌++◌, length, Some, None, Option, sym, refl, ap, ◌∙◌, subst, append_assoc, arith}
+-- One call of a run: the round in hand after it, and what is told of it.
+use Rattle.std.proofs.Common.{◌≡◌, ℕ, ◌-◌, Bool, true, false, cond, List, [], ◌∷◌, ◌++◌, length, take, Some, None, Ok, Err, Option, Result, sym, refl, ap, ◌∙◌, subst, append-nil, arith}
+use Rattle.std.specs.Result.{MatchResult}
+use Rattle.std.proofs.lemmas.List.{take_all, take-append-le}
 use Rattle.terms.specs.declared.refusals.Refusal.{Refusal}
+use Rattle.terms.specs.declared.refusals.Refusal.TheVariants.{WrongRound}
 use Rattle.rules.specs.declared.types.Call.{Call}
-use Rattle.rules.specs.declared.types.Call.TheVariants.{Admit, Wake, Rest, Leave, Move, Deal, Settle}
+use Rattle.rules.specs.declared.types.Call.TheVariants.{Deal, Settle}
 use Rattle.rules.specs.declared.types.Answer.{Answer}
-use Rattle.rules.specs.declared.types.Answer.TheVariants.{Refused, Dealt}
+use Rattle.rules.specs.declared.types.Answer.TheVariants.{Until, Free, Dealt, Refused}
 use Rattle.rules.specs.Setup.{Setup}
 use Rattle.rules.specs.System.{System}
 use Rattle.rules.specs.Dealing.{picks}
-use Rattle.rules.specs.Calls.{Outcome, refused, answered, answer}
-use Rattle.rules.specs.Replay.{Told, said, dealt, names_told, state_after, answer_of, is_accepted, accepts, next, reply, replay}
-use Rattle.rules.proofs.Steps.{Step, admits, wakes, rests, leaves, moves, deals, settles, by_step}
+use Rattle.rules.specs.Calls.{refused, settle}
+use Rattle.rules.specs.Replay.{Told, said, dealt, names_told, answer_of, state_after, accepts, next, reply, replay}
+use Rattle.rules.proofs.Steps.{Step, leaves, moves, deals, settles, by_step}
+use Rattle.table.proofs.Picking.{length_picks}
 use Rattle.engine.specs.declared.answers.Round.{Round}
-use Rattle.engine.specs.Shown.{Same, Performed}
-use Rattle.engine.specs.Along.{InHand, Along}
+use Rattle.engine.specs.Answers.{answer_by}
+use Rattle.engine.specs.Names.{eight_names}
+use Rattle.engine.specs.Shown.{Performed}
+use Rattle.engine.specs.Driving.{trying}
+use Rattle.engine.specs.Along.{InHand, Drives}
 use Rattle.engine.proofs.Along.{replay_append}
+use Rattle.engine.proofs.Rounds.{deal_out, settle_none, settle_other, settle_done}
 
 -- A call that neither deals nor settles.
 abbrev pub Calm : Call → Type 0
-Calm (Admit q p) = Unit {0}
-Calm (Wake n) = Unit {0}
-Calm (Rest n) = Unit {0}
-Calm (Leave n) = Unit {0}
-Calm (Move n c) = Unit {0}
 Calm Deal = ⊥
 Calm (Settle t) = ⊥
+Calm c = Unit {0}
 
-hand_kept : (g : Option Round) (σ τ : System) → (τ.out ≡ σ.out) × (τ.clock ≡ σ.clock) → InHand g σ → InHand g τ
+-- An answer that is no refusal.
+abbrev pub is_taken : Answer → Bool
+is_taken (Refused n) = false
+is_taken a = true
+
+-- The names told after an answer, where these are the names dealt.
+abbrev pub names_of : Answer → List (Option ℕ) → List Told
+names_of (Dealt t) ns = dealt ns ∷ []
+names_of a ns = []
+
+-- The names told after a call that is accepted or not.
+abbrev names_by : Bool → Call → List (Option ℕ) → List Told
+names_by taken Deal ns = cond taken (dealt ns ∷ []) []
+names_by taken c ns = []
+
+-- The round in hand is the one that is out in every state of this clock, and with a round out as here.
+pub hand_kept : (g : Option Round) (σ τ : System) → (τ.out ≡ σ.out) × (τ.clock ≡ σ.clock) → InHand g σ → InHand g τ
 hand_kept None σ τ same h = same.0 ∙ h
 hand_kept (Some r) σ τ same h = (same.0 ∙ h.0, h.1 ∙ sym same.1)
 
+-- The answer of a result, where a refusal is unwrapped into one.
+pub unwrapped : (res : Result Answer Refusal) (a : Answer) → MatchResult res (λ x. a ≡ x) (λ n. a ≡ Refused n) → answer_by (λ x. x) res ≡ a
+unwrapped (Ok x) a h = sym h
+unwrapped (Err n) a h = sym h
+
+-- An answer that is neither the deal of a round nor a refusal.
+pub names_none : (a : Answer) (ns : List (Option ℕ)) → ((t : ℕ) → a ≡ Dealt t → ⊥) → [] ≡ names_of a ns
+names_none (Dealt t) ns other = absurd (other t refl)
+names_none a ns other = refl
+
+pub taken : (a : Answer) → ((n : Refusal) → a ≡ Refused n → ⊥) → true ≡ is_taken a
+taken (Refused n) other = absurd (other n refl)
+taken a other = refl
+
 module _ (s : Setup) (σ : System) where
   calm_step : (c : Call) (a : Answer) (σ' : System) → Calm c → Step s σ c a σ' → (σ'.out ≡ σ.out) × (σ'.clock ≡ σ.clock)
-  calm_step c a σ' calm (admits q p parts core limits taken settled place number chosen) = (refl, refl)
-  calm_step c a σ' calm (wakes n r settled found resting) = (refl, refl)
-  calm_step c a σ' calm (rests n r settled found wanting) = (refl, refl)
-  calm_step c a σ' calm (leaves n r settled found place) = (refl, refl)
-  calm_step c a σ' calm (moves n core r exists settled found other ahead fits place) = (refl, refl)
   calm_step c a σ' calm (deals settled going) = absurd calm
   calm_step c a σ' calm (settles tick out right) = absurd calm
+  calm_step c a σ' calm t = (refl, refl)
 
-  -- It keeps the round in hand,
+  -- It keeps the round in hand.
   pub calm_hand : (c : Call) (g : Option Round) → Calm c → InHand g σ → InHand g (next s σ c)
   calm_hand c g calm h =
       hand_kept g σ (next s σ c) (by_step s σ c (λ _ _ σ'. (σ'.out ≡ σ.out) × (σ'.clock ≡ σ.clock)) (λ _. (refl, refl)) (λ a σ' t. calm_step c a σ' calm t)) h
 
-  -- and names nobody.
-  pub calm_quiet : (c : Call) → Calm c → names_told s σ c ≡ []
-  calm_quiet (Admit q p) calm = refl
-  calm_quiet (Wake n) calm = refl
-  calm_quiet (Rest n) calm = refl
-  calm_quiet (Leave n) calm = refl
-  calm_quiet (Move n c) calm = refl
-  calm_quiet Deal calm = absurd calm
-  calm_quiet (Settle t) calm = refl
-
-  -- Nor does a call that is refused.
-  pub refused_quiet : (c : Call) (n : Refusal) → answer s σ c ≡ refused n → names_told s σ c ≡ []
-  refused_quiet (Admit q p) n e = refl
-  refused_quiet (Wake m) n e = refl
-  refused_quiet (Rest m) n e = refl
-  refused_quiet (Leave m) n e = refl
-  refused_quiet (Move m c) n e = refl
-  refused_quiet Deal n e = ap (λ o. cond (is_accepted o) (dealt (state_after σ o).names ∷ []) []) e
-  refused_quiet (Settle t) n e = refl
-
-  -- What follows from the answer of a deal: the round bears the clock's tick, and there is a name for each core,
+  -- What follows from the answer of a deal: the round bears the clock's tick, and there is a name for each core.
   pub deal_answered : (t : ℕ) → Dealt t ≡ reply s σ Deal → (accepts s σ Deal ≡ true) × ((next s σ Deal).out ≡ true) × (t ≡ (next s σ Deal).clock) × ((next s σ Deal).names ≡ picks (length s.figures) σ.live)
   deal_answered t e = by_step s σ Deal (λ b a σ'. Dealt t ≡ a → (b ≡ true) × (σ'.out ≡ true) × (t ≡ σ'.clock) × (σ'.names ≡ picks (length s.figures) σ.live)) (λ n h. let z : ◌≡◌ {A = ℕ} 0 1 = cc in absurd (omega arith)) go e
     where
       go : (a : Answer) (σ' : System) → Step s σ Deal a σ' → Dealt t ≡ a → (true ≡ true) × (σ'.out ≡ true) × (t ≡ σ'.clock) × (σ'.names ≡ picks (length s.figures) σ.live)
       go a σ' (deals settled going) h = (refl, refl, cc, refl)
 
-  -- or it is refused and nothing changes.
-  pub deal_refused : (n : Refusal) → Refused n ≡ reply s σ Deal → answer s σ Deal ≡ refused n
-  deal_refused n e = go (answer s σ Deal) e (by_step s σ Deal (λ b a _. Refused n ≡ a → b ≡ false) (λ m h. refl) (λ a σ' t h. accepted a σ' t h) e)
+  departs : (b : Bool) (t n : ℕ) (ns : List (Option ℕ)) → (true ≡ is_taken (cond b (Until t) Free)) × ([] ≡ names_of (cond b (Until t) Free) ns) × ((u : ℕ) → Dealt u ≡ cond b (Until t) Free → length ns ≡ n)
+  departs true t n ns = (refl, refl, λ u h. cc)
+  departs false t n ns = (refl, refl, λ u h. cc)
+
+  step_says : (c : Call) (a : Answer) (σ' : System) → Step s σ c a σ' → (true ≡ is_taken a) × (names_by true c σ'.names ≡ names_of a σ'.names) × ((t : ℕ) → Dealt t ≡ a → length σ'.names ≡ length s.figures)
+  step_says c a σ' (leaves n r settled found place) = departs _ _ _ _
+  step_says c a σ' (moves n core r exists settled found other ahead fits place) = departs _ _ _ _
+  step_says c a σ' (deals settled going) = (refl, refl, λ t h. length_picks σ.live (length s.figures) 0)
+  step_says c a σ' t = (refl, refl, λ u h. cc)
+
+  none_by : (c : Call) (ns : List (Option ℕ)) → names_by false c ns ≡ []
+  none_by Deal ns = refl
+  none_by c ns = refl
+
+  names_told_by : (c : Call) → names_told s σ c ≡ names_by (accepts s σ c) c (next s σ c).names
+  names_told_by Deal = refl
+  names_told_by c = refl
+
+  -- The answer says whether the call is accepted, and what names are told; where it is that of a deal, there is one for each core.
+  pub reply_says : (c : Call) → (accepts s σ c ≡ is_taken (reply s σ c)) × (names_told s σ c ≡ names_of (reply s σ c) (next s σ c).names) × ((t : ℕ) → Dealt t ≡ reply s σ c → length (next s σ c).names ≡ length s.figures)
+  reply_says c =
+      let p = by_step s σ c (λ b a σ'. (b ≡ is_taken a) × (names_by b c σ'.names ≡ names_of a σ'.names) × ((t : ℕ) → Dealt t ≡ a → length σ'.names ≡ length s.figures)) (λ n. (refl, none_by c σ.names, λ t h. cc)) (step_says c) in
+      (p.0, names_told_by c ∙ p.1, p.2)
+
+-- A settle of another tick than the clock's is refused.
+pub settle_wrong : (σ : System) (t : ℕ) → (t ≡ σ.clock → ⊥) → settle σ t ≡ refused WrongRound
+settle_wrong σ t other = go σ.out refl
+  where
+    go : (b : Bool) → σ.out ≡ b → settle σ t ≡ refused WrongRound
+    go true e = settle_other σ t e other
+    go false e = settle_none σ t e
+
+module _ {s : Setup} {σ τ : System} where
+  -- A call that neither deals nor settles keeps the round in hand,
+  pub calm_held : (c : Call) (a : Answer) (h : Option Round) → Calm c → Performed s σ c a τ → InHand h σ → InHand h τ
+  calm_held c a h calm done held = hand_kept h (next s σ c) τ (done.next.out, done.next.clock) (calm_hand s σ c h calm held)
+
+  -- a deal puts the round that it deals there,
+  pub dealt_held : (r : Round) → Performed s σ Deal (Dealt r.tick) τ → InHand (Some r) τ
+  dealt_held r done =
+      let f = deal_answered s σ r.tick done.answer in
+      (done.next.out ∙ f.1, f.2 ∙ sym done.next.clock)
+
+  -- where none was,
+  pub dealt_none : (r : Round) (x : Round) → Performed s σ Deal (Dealt r.tick) τ → InHand (Some x) σ → ⊥
+  dealt_none r x done held =
+      let e = done.answer ∙ ap answer_of (deal_out s σ held.0) in
+      let z : ◌≡◌ {A = ℕ} 0 1 = cc in
+      omega arith
+
+  -- and the settle of the round in hand leaves none.
+  pub settled_held : (r : Round) (a : Answer) → Performed s σ (Settle r.tick) a τ → InHand (Some r) σ → InHand None τ
+  settled_held r a done held = done.next.out ∙ ap (λ o. (state_after σ o).out) (settle_done σ r.tick held.0 held.1)
+
+  -- The names of so many cores as there are figures are those shown after a deal.
+  pub names_shown : {c : Call} {a b : Answer} {t : ℕ} (names : List (Option ℕ)) (n : ℕ) → Performed s σ c a τ → a ≡ b → b ≡ Dealt t → names ≡ eight_names τ.names → n ≡ length s.figures → dealt (take (n - 0) names) ∷ [] ≡ names_of b τ.names
+  names_shown {c} {a} {b} {t} names n done same_answer is eight cores =
+      ap (λ ns. dealt ns ∷ []) ((λ i. take (counted i) (eight i)) ∙ take-append-le (length τ.names) τ.names _ (omega arith) ∙ take_all (length τ.names) τ.names (omega arith)) ∙ ap (λ x. names_of x τ.names) (sym is)
     where
-      accepted : (a : Answer) (σ' : System) → Step s σ Deal a σ' → Refused n ≡ a → true ≡ false
-      accepted a σ' (deals settled going) h = cc
+      counted : n - 0 ≡ length τ.names
+      counted =
+          let h = ap length done.next.names ∙ (reply_says s σ c).2 t (sym (same_answer ∙ is) ∙ done.answer) in
+          omega arith
 
-      go : (o : Outcome) → Refused n ≡ answer_of o → is_accepted o ≡ false → o ≡ refused n
-      go (refused m) h k = cc
-      go (answered a τ) h k = cc
-
-  -- A deal does not change the clock.
-  pub deal_clock : (next s σ Deal).clock ≡ σ.clock
-  deal_clock = by_step s σ Deal (λ _ _ σ'. σ'.clock ≡ σ.clock) (λ _. refl) go
-    where
-      go : (a : Answer) (σ' : System) → Step s σ Deal a σ' → σ'.clock ≡ σ.clock
-      go a σ' (deals settled going) = refl
-
-module _ {O : Type 0} (shows : O → List Told → Type 0) (s : Setup) (past : List Call) (c : Call) where
-  abbrev ρ : System
-  ρ = replay s past
-
-  after_one : replay s (past ++ c ∷ []) ≡ next s ρ c
-  after_one = replay_append s past (c ∷ [])
-
-  -- A call performed, of which only its answer is told.
-  pub along_call : (σ τ : System) (a : Answer) (tick : ℕ) (h : Option Round) (o o' : O) → Performed s σ c a τ → Same σ ρ → tick ≡ σ.clock → names_told s ρ c ≡ [] → InHand h (next s ρ c) → ((l : List Told) → shows o l → shows o' (l ++ said tick c a ∷ [])) → Along shows s past (c ∷ []) o τ h o'
-  along_call σ τ a tick h o o' done same ticks quiet hand tells = record {
-    shown = (done.replayed past same).1;
-    hand = subst (InHand h) (sym after_one) hand;
-    observed = λ l seen.
-        subst (λ k. shows o' (l ++ k)) (λ i. said ((ticks ∙ same.clock) i) c ((done.replayed past same).0 i) ∷ sym (ap (λ k. k ++ []) quiet) i) (tells l seen);
-  }
-
-  -- A call that is refused with no engine asked.
-  pub along_refused : (σ : System) (n : Refusal) (tick : ℕ) (g : Option Round) (o o' : O) → answer s ρ c ≡ refused n → Same σ ρ → tick ≡ σ.clock → InHand g ρ → ((l : List Told) → shows o l → shows o' (l ++ said tick c (Refused n) ∷ [])) → Along shows s past (c ∷ []) o σ g o'
-  along_refused σ n tick g o o' e same ticks hand tells = record {
-    shown = subst (Same σ) (sym (after_one ∙ ap (state_after ρ) e)) same;
-    hand = subst (InHand g) (sym (after_one ∙ ap (state_after ρ) e)) hand;
-    observed = λ l seen.
-        subst (λ k. shows o' (l ++ k)) (λ i. said ((ticks ∙ same.clock) i) c (sym (ap answer_of e) i) ∷ sym (ap (λ k. k ++ []) (refused_quiet s ρ c n e)) i) (tells l seen);
-  }
-
--- A deal performed and accepted, of which the answer and then the names are told.
-pub along_dealt : {O : Type 0} (shows : O → List Told → Type 0) (s : Setup) (past : List Call) (σ τ : System) (round : Round) (tick : ℕ) (names : List (Option ℕ)) (o o₁ o' : O) → Performed s σ Deal (Dealt round.tick) τ → Same σ (replay s past) → tick ≡ σ.clock → names ≡ τ.names → ((l : List Told) → shows o l → shows o₁ (l ++ said tick Deal (Dealt round.tick) ∷ [])) → ((l : List Told) → shows o₁ l → shows o' (l ++ dealt names ∷ [])) → Along shows s past (Deal ∷ []) o τ (Some round) o' × (true ≡ accepts s (replay s past) Deal)
-along_dealt shows s past σ τ round tick names o o₁ o' done same ticks named tells names-told =
-    let ρ = replay s past in
-    let right = (done.replayed past same).0 in
-    let facts = deal_answered s ρ round.tick right in
-    let one = replay_append s past (Deal ∷ []) in
-    let now-names = named ∙ (done.replayed past same).1.names ∙ ap (λ υ. υ.names) one in (
-      record {
-        shown = (done.replayed past same).1;
-        hand = subst (InHand (Some round)) (sym one) (facts.1, facts.2);
-        observed = λ l seen.
-            subst (shows o') (append_assoc l _ _ ∙ λ i. l ++ (said ((ticks ∙ same.clock) i) Deal (right i) ∷ cond (sym facts.0 i) (dealt (now-names i) ∷ []) [] ++ [])) (names-told _ (tells l seen));
-      },
-      sym facts.0,
-    )
+  -- A call performed, of which its answer and the names dealt are told.
+  pub call_drives : {O : Type 0} {shows : O → List Told → Type 0} {c : Call} {a b : Answer} {tick : ℕ} (g : Option Round) {h : Option Round} {taken : Bool} {names : List Told} {o o' : O} → Performed s σ c a τ → a ≡ b → InHand h τ → tick ≡ σ.clock → taken ≡ is_taken b → names ≡ names_of b τ.names → ((l : List Told) → shows o l → shows o' (l ++ said tick c b ∷ names)) → Drives shows s (trying c s) σ g o τ h taken o'
+  call_drives {shows} {c} {a} {b} {tick} g {h} {taken} {names} {o} {o'} done same_answer held ticks flag named tells past same hand =
+      let ρ = replay s past in
+      let right = sym same_answer ∙ (done.replayed past same).0 in
+      let now = (done.replayed past same).1 in
+      let says = reply_says s ρ c in
+      let told : names ≡ names_told s ρ c ++ [] = named ∙ (λ i. names_of (right i) ((now.names ∙ ap (λ υ. υ.names) (replay_append s past (c ∷ []))) i)) ∙ sym says.1 ∙ sym (append-nil _) in (
+        record {
+          shown = now;
+          hand = hand_kept h τ (replay s (past ++ c ∷ [])) (sym now.out, sym now.clock) held;
+          observed = λ l seen.
+              subst (λ k. shows o' (l ++ k)) (λ i. said ((ticks ∙ same.clock) i) c (right i) ∷ told i) (tells l seen);
+        },
+        flag ∙ ap is_taken right ∙ sym says.0,
+      )

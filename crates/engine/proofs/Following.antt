@@ -1,5 +1,5 @@
 -- What a call on the table or the ledger comes to in the model.
-use Rattle.std.proofs.Common.{◌≡◌, ℕ, Bool, true, false, cond, not, is_err, Some, None, Ok, Err, Option, Result, sym, refl, ap, ◌∙◌, subst}
+use Rattle.std.proofs.Common.{◌≡◌, ℕ, Bool, true, false, cond, not, is_err, IsErrAnd, Some, None, Ok, Err, Option, Result, sym, refl, ap, ◌∙◌, subst}
 use Rattle.terms.specs.declared.refusals.Refusal.{Refusal}
 use Rattle.terms.specs.declared.refusals.Refusal.TheVariants.{RoundOut, NoReservation, NotResting, Resting as AlreadyResting}
 use Rattle.rules.specs.declared.types.Reservation.{Reservation}
@@ -27,22 +27,14 @@ follows_refused i o n e = record {
   start = refl;
 }
 
-module _ (σ : System) (n : ℕ) (rest : Reservation → Outcome) where
-  -- A call on a live reservation is refused while a round is out,
-  pub on_live_out : σ.out ≡ true → on_live σ n rest ≡ refused RoundOut
-  on_live_out e = ap (λ b. check (not b) RoundOut (given_by (find n σ.live) NoReservation rest)) e
+-- A refusal of the model, on figures that are as they were.
+pub follows_kept : (i i' : Inner) (o : Outcome) (n : Refusal) → o ≡ refused n → i' ≡ i → Follows i o (Refused n) i'
+follows_kept i i' o n e kept = subst (Follows i o (Refused n)) (sym kept) (follows_refused i o n e)
 
-  -- or where there is none of that number,
-  pub on_live_none : σ.out ≡ false → find n σ.live ≡ None → on_live σ n rest ≡ refused NoReservation
-  on_live_none e f = λ i. check (not (e i)) RoundOut (given_by (f i) NoReservation rest)
-
-  -- and else goes on with the one found.
-  pub on_live_found : (r : Reservation) → σ.out ≡ false → find n σ.live ≡ Some r → on_live σ n rest ≡ rest r
-  on_live_found r e f = λ i. check (not (e i)) RoundOut (given_by (f i) NoReservation rest)
-
--- What a refused call owes: the model refuses alike, and the figures are as they were.
-abbrev Kept : Inner → Outcome → Refusal → Inner → Type 0
-Kept i o n i' = record { next : Follows i o (Refused n) i'; kept : true ≡ true → i' ≡ i }
+-- A refusal that `?` hands on: the model refuses alike, and the figures are as they were.
+pub follows_handed : {X : Type 0} (f : X → Answer) (i i' : Inner) (o : Outcome) (n : Refusal) (r : Result X Refusal) → IsErrAnd r (λ m. m ≡ n) → o ≡ refused n → i' ≡ i → Follows i o (answer_by f r) i'
+follows_handed f i i' o n (Ok x) h e kept = absurd h
+follows_handed f i i' o n (Err m) h e kept = follows_kept i i' o m (e ∙ ap refused (sym h)) kept
 
 -- The outcome of a result, with the state where it is none of refusal.
 abbrev pub outcome_by : {X : Type 0} → (X → Answer) → Result X Refusal → System → Outcome
@@ -96,15 +88,10 @@ follows_by f i i' o res x τ e k shown figures start = record {
   start = start;
 }
 
--- A refusal by a result: the model refuses alike, and the figures are as they were.
-pub refused_table : {X : Type 0} (f : X → Answer) (i i' : Inner) (o : Outcome) (res : Result X Refusal) (n : Refusal) (τ : System) → o ≡ outcome_by f res τ → res ≡ Err n → i' ≡ i → Kept i o n i'
-refused_table f i i' o res n τ e k same =
-    subst (Kept i o n) (sym same) (record { next = follows_refused i o n (e ∙ ap (λ r. outcome_by f r τ) k); kept = λ _. refl })
-
 -- The figures follow the model's outcome by a result: as they were where it is a refusal, and else showing the state named.
 pub follows_result : {X : Type 0} (f : X → Answer) (i i' : Inner) (o : Outcome) (res ans : Result X Refusal) (τ : System) → o ≡ outcome_by f ans τ → res ≡ ans → (is_err res ≡ true → i' ≡ i) → Same (view i') τ → figures_of i' ≡ figures_of i → i'.start ≡ i.start → Follows i o (answer_by f res) i'
 follows_result f i i' o (Ok x) ans τ e k same shown figures start = follows_by f i i' o ans x τ e (sym k) shown figures start
-follows_result f i i' o (Err n) ans τ e k same shown figures start = (refused_table f i i' o ans n τ e (sym k) (same refl)).next
+follows_result f i i' o (Err n) ans τ e k same shown figures start = follows_kept i i' o n (e ∙ ap (λ r. outcome_by f r τ) (sym k)) (same refl)
 
 -- An accepted outcome: the answer is the model's, and its state is shown.
 pub follows_answered : (i i' : Inner) (o : Outcome) (a b : Answer) (τ : System) → o ≡ answered b τ → a ≡ b → Same (view i') τ → figures_of i' ≡ figures_of i → i'.start ≡ i.start → Follows i o a i'
@@ -114,8 +101,3 @@ follows_answered i i' o a b τ e k shown figures start = record {
   figures = figures;
   start = start;
 }
-
--- A refused call that left the figures as they were.
-pub refused_alike : (i i' : Inner) (o : Outcome) (n : Refusal) → o ≡ refused n → i' ≡ i → Kept i o n i'
-refused_alike i i' o n e same =
-    subst (Kept i o n) (sym same) (record { next = follows_refused i o n e; kept = λ _. refl })

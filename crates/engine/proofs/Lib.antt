@@ -7,8 +7,6 @@ pub mod Admitting
 pub mod Naming
 pub mod Calling
 pub mod Drives
-pub mod Performing
 pub mod Running
-pub mod Filled
 pub mod Rounds
 pub mod Departing

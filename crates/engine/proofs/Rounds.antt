@@ -1,5 +1,5 @@
 -- Dealing and settling: the names in eight places against the names of the cores.
-use Rattle.std.proofs.Common.{◌≡◌, ℕ, suc, ◌+◌, ◌-◌, ◌≤◌, Bool, true, false, cond, not, eqb, List, [], ◌∷◌, ◌++◌, map, length, get_or, take, drop, replicate, is_some, Some, None, Ok, Err, Option, Result, sym, refl, ap, ◌∙◌, arith, length-append}
+use Rattle.std.proofs.Common.{◌≡◌, ℕ, suc, ◌+◌, ◌-◌, ◌≤◌, Bool, true, false, cond, not, eqb, ◌&&◌, List, [], ◌∷◌, ◌++◌, map, length, get_or, take, drop, replicate, is_some, Some, None, Ok, Err, Option, Result, sym, refl, ap, ◌∙◌, arith, length-append}
 use mathlib.Core.Path.{fun_ext}
 use native.Mathlib.Nat.{min-eq_left}
 use lib.ListN.{length-replicate}
@@ -16,8 +16,9 @@ use Rattle.rules.specs.Server.{is_name, charged, charged_if, refilled}
 use Rattle.rules.specs.Dealing.{picks}
 use Rattle.rules.specs.Calls.{refused, answered, with_round, ticked, deal, settle}
 use Rattle.table.specs.Calls.{dealt, tick_answer, tick_clock, tick_live, ticked as ticked_by}
+use Rattle.table.specs.declared.server.Picks.{Picks}
 use Rattle.table.proofs.Picking.{length_picks}
-use Rattle.engine.specs.Limits.{all_none, none_from, going}
+use Rattle.engine.specs.Limits.{all_none, none_from, fits_cores, going}
 
 module _ (cores : ℕ) (rs : List Reservation) (few : cores ≤ 8) where
   dealt_is : dealt cores rs ≡ picks cores rs ++ replicate (8 - cores) None
@@ -41,11 +42,15 @@ module _ (cores : ℕ) (rs : List Reservation) (few : cores ≤ 8) where
   dealt_long =
       omega (arith, ap length dealt_is, length-append (picks cores rs) (replicate (8 - cores) None), length_picks rs cores 0, length-replicate {A = Option ℕ} (8 - cores) None)
 
+  -- So the round dealt fits the cores.
+  pub dealt_fits : (p : Picks) → p.names ≡ dealt cores rs → fits_cores cores (Some p) ≡ true
+  dealt_fits p is = λ i. eqb ((ap length is ∙ dealt_long) i) 8 && (ap (none_from cores) is ∙ dealt_none) i
+
 -- None stands at each place of a list of nones.
 all_none_at : (ns : List (Option ℕ)) (c : ℕ) → all_none ns ≡ true → get_or ns c None ≡ None
 all_none_at [] c h = refl
 all_none_at (None ∷ ns) ℕ.zero h = refl
-all_none_at (Some n ∷ ns) ℕ.zero h = let z : ◌≡◌ {A = ℕ} 0 1 = cc in absurd (omega arith)
+all_none_at (Some n ∷ ns) ℕ.zero h = cc
 all_none_at (n ∷ ns) (suc c) h = all_none_at ns c (and_parts (not (is_some n)) (all_none ns) h).1
 
 -- The names of the cores tell as much as those in the eight places.
@@ -97,14 +102,14 @@ going_on t high other = grind (arith, nat_tests)
 
 pub not_last : (out : Bool) (t : ℕ) → out ≡ true → going out t ≡ true → t ≡ last_tick → ⊥
 not_last true t e h l = grind (arith, nat_tests)
-not_last false t e h l = let z : ◌≡◌ {A = ℕ} 0 1 = cc in omega arith
+not_last false t e h l = cc
 
 -- What a tick answers and leaves before the last one.
 pub tick_answer_lem : (t n : ℕ) → (t ≡ last_tick → ⊥) → Ok n ≡ tick_answer t → n ≡ t + 1
 tick_answer_lem t n other e = go (eqb t last_tick) (ne_eqb _ _ other) e
   where
     go : (b : Bool) → b ≡ false → ◌≡◌ {A = Result ℕ Refusal} (Ok n) (cond b (Err ClockEnd) (Ok (t + 1))) → n ≡ t + 1
-    go true k h = let z : ◌≡◌ {A = ℕ} 0 1 = cc in absurd (omega arith)
+    go true k h = cc
     go false k h = cc
 
 pub tick_clock_lem : (t : ℕ) → (t ≡ last_tick → ⊥) → tick_clock t ≡ t + 1
@@ -112,12 +117,3 @@ tick_clock_lem t other = rw (ne_eqb _ _ other) refl
 
 pub tick_live_lem : (ns : List (Option ℕ)) (t : ℕ) (rs : List Reservation) → (t ≡ last_tick → ⊥) → tick_live ns t rs ≡ map (ticked_by ns (t + 1)) rs
 tick_live_lem ns t rs other = rw (ne_eqb _ _ other) refl
-
--- No core has a name where there are none.
-pub none_dropped : (n : ℕ) (ns : List (Option ℕ)) → all_none ns ≡ true → none_from n ns ≡ true
-none_dropped ℕ.zero ns h = h
-none_dropped (suc n) [] h = refl
-none_dropped (suc n) (x ∷ ns) h = none_dropped n ns (and_parts (not (is_some x)) (all_none ns) h).1
-
-pub none_named : (n : ℕ) → none_from n (None ∷ None ∷ None ∷ None ∷ None ∷ None ∷ None ∷ None ∷ []) ≡ true
-none_named n = none_dropped n (None ∷ None ∷ None ∷ None ∷ None ∷ None ∷ None ∷ None ∷ []) refl

@@ -1,6 +1,7 @@
 -- What a run keeps as it goes along: the engine shows the replay of the calls made, the round in hand is the one that is out, and the observer
 -- was told what the replay answers and tells.
 use Rattle.std.specs.Prelude.{◌≡◌, Bool, true, false, List, ◌++◌, Some, None, Option}
+use Rattle.std.specs.Coded.{×_prop, Coded-set, coded_bool, coded_ℕ}
 use Rattle.rules.specs.declared.types.Call.{Call}
 use Rattle.rules.specs.Setup.{Setup}
 use Rattle.rules.specs.System.{System}
@@ -13,6 +14,10 @@ use Rattle.engine.specs.Shown.{Same}
 abbrev pub InHand : Option Round → System → Type 0
 InHand None σ = σ.out ≡ false
 InHand (Some r) σ = (σ.out ≡ true) × (r.tick ≡ σ.clock)
+
+pub InHand-prop : (h : Option Round) (σ : System) → IsProp (InHand h σ)
+InHand-prop None σ = Coded-set coded_bool σ.out false
+InHand-prop (Some r) σ = ×_prop (Coded-set coded_bool σ.out true) (Coded-set coded_ℕ r.tick σ.clock)
 
 -- After the calls past and then the calls done the state τ is shown, with the round h in hand, and an observer that was o is now o'.
 pub record Along {O : Type 0} (shows : O → List Told → Type 0) (s : Setup) (past done : List Call) (o : O) (τ : System) (h : Option Round) (o' : O) : Type 0 where

@@ -1,12 +1,11 @@
 -- The results of the engine's calls as the answers of the model.
-use Rattle.std.specs.Prelude.{◌≡◌, ℕ, Ok, Err, Result}
+use Rattle.std.specs.Prelude.{◌≡◌, ℕ, Some, None, Ok, Err, Option, Result}
 use Rattle.terms.specs.declared.refusals.Refusal.{Refusal}
 use Rattle.rules.specs.declared.types.Answer.{Answer}
 use Rattle.rules.specs.declared.types.Answer.TheVariants as answer
 use Rattle.engine.specs.declared.answers.Placement.{Placement}
 use Rattle.engine.specs.declared.answers.Awake.{Awake}
 use Rattle.engine.specs.declared.answers.Departure.{Departure}
-use Rattle.engine.specs.declared.answers.Departure.TheVariants.{Until, Free}
 use Rattle.engine.specs.declared.answers.Round.{Round}
 use Rattle.engine.specs.declared.answers.Unsettled.{Unsettled}
 
@@ -24,9 +23,13 @@ awake = answer_by (λ w. answer.Awake w.state w.deadline)
 abbrev pub left : Result ℕ Refusal → Answer
 left = answer_by answer.Left
 
+-- The parts stay counted until a tick, or they are free.
+abbrev pub counted_until : Option ℕ → Answer
+counted_until (Some t) = answer.Until t
+counted_until None = answer.Free
+
 abbrev pub departure_said : Departure → Answer
-departure_said (Until t) = answer.Until t
-departure_said Free = answer.Free
+departure_said d = counted_until d.until
 
 abbrev pub departed : Result Departure Refusal → Answer
 departed = answer_by departure_said

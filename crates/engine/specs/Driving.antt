@@ -24,9 +24,9 @@ stopped = record { calls = Deal ∷ []; complete = false }
 abbrev pub once : Call → Course
 once c = record { calls = c ∷ []; complete = true }
 
--- A deal, complete where it is accepted.
-abbrev pub dealing : Setup → System → Course
-dealing s σ = record { calls = Deal ∷ []; complete = accepts s σ Deal }
+-- One call, complete where it is accepted.
+abbrev pub trying : Call → Setup → System → Course
+trying c s σ = record { calls = c ∷ []; complete = accepts s σ c }
 
 -- These calls first.
 abbrev pub before : List Call → Course → Course

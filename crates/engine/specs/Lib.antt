@@ -6,4 +6,5 @@ pub mod View
 pub mod Engines
 pub mod Driving
 pub mod Along
+pub mod Driven
 pub mod Running

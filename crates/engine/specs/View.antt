@@ -1,5 +1,5 @@
 -- What the engine's figures show of the model.
-use Rattle.std.specs.Prelude.{◌≡◌, ℕ, false, cond, List, [], length, take, is_err, Some, None, Option, Result, nat_lt}
+use Rattle.std.specs.Prelude.{◌≡◌, ℕ, false, cond, List, [], length, is_some, is_err, Some, None, Option, Result, nat_lt}
 use Rattle.terms.specs.declared.refusals.Refusal.{Refusal}
 use Rattle.terms.specs.declared.refusals.Refusal.TheVariants.{RoundOut, TooMany, NumbersGone, LedgerFull}
 use Rattle.rules.specs.declared.types.Answer.{Answer}
@@ -14,11 +14,12 @@ use Rattle.table.specs.View.{clock_of, live_of}
 use Rattle.engine.specs.declared.inner.Inner.{Inner}
 use Rattle.engine.specs.declared.answers.Departure.{Departure}
 use Rattle.engine.specs.Answers.{departed}
+use Rattle.engine.specs.Limits.{names_out}
 use Rattle.engine.specs.Shown.{Same}
 
 -- The figure B of each core.
 abbrev pub figures_of : Inner → List ℕ
-figures_of i = take i.cores i.figures
+figures_of i = i.figures.items
 
 -- The state that is shown.
 abbrev pub view : Inner → System
@@ -27,8 +28,8 @@ view i = record {
   live = live_of i.table;
   ledger = entries i.ledger;
   given = i.given;
-  out = i.out;
-  names = cond i.out (take i.cores i.picks.names) [];
+  out = is_some i.round;
+  names = names_out (length i.figures.items) i.round;
 }
 
 -- The figures after an outcome of the model: they answered as it does, show its state, and their cores and start are as before.
@@ -55,7 +56,7 @@ pub record Departs (i : Inner) (r : Reservation) (a : Result Departure Refusal) 
   pub answer : departed a ≡ cond (place_for (view i) r) (departure (view i) r) (Refused LedgerFull)
   pub ledger : is_err a ≡ false → SameEntries (entries i'.ledger) (ledger_after (view i) r)
   pub table : i'.table ≡ i.table
-  pub rest : (i'.given ≡ i.given) × (i'.out ≡ i.out) × (i'.picks ≡ i.picks) × (figures_of i' ≡ figures_of i) × (i'.start ≡ i.start)
+  pub rest : (i'.given ≡ i.given) × (i'.round ≡ i.round) × (figures_of i' ≡ figures_of i) × (i'.start ≡ i.start)
 
 -- What an engine just made shows.
 abbrev pub opened : ℕ → System

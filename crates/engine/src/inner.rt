@@ -1,32 +1,33 @@
 // The engine's figures without its measure and policy, and what holds of them between calls.
-ghost use Rattle.std.specs.Prelude.{◌≡◌, ◌≤◌, true, false, length, take, is_some};
+ghost use Rattle.std.specs.Prelude.{◌≡◌, ◌≤◌, true, false, length, is_some};
 ghost use Rattle.rules.specs.Setup.{making};
 ghost use Rattle.table.specs.View.{clock_of};
-ghost use Rattle.engine.specs.Limits.{none_from, going};
+ghost use Rattle.engine.specs.Limits.{fits_cores, going};
 
+use arrayvec::ArrayVec;
 use ledger::Ledger;
+use rules::MOST_CORES;
 use table::{Picks, Table};
 
+// The figure B of each core, and whom each core is dealt to while a round is out.
 #[derive(Drop)]
 pub struct Inner {
-    cores: usize,
-    figures: [u32; 8],
+    figures: ArrayVec<u32, MOST_CORES>,
     start: u32,
     table: Table,
     ledger: Ledger,
     given: u32,
-    out: bool,
-    picks: Picks,
-    ghost few: { cores ≤ 8 },
-    ghost sized: { length figures ≡ 8 },
-    ghost made: { is_some (making (take cores figures) start) ≡ false },
+    round: Option<Picks>,
+    ghost made: { is_some (making figures.items start) ≡ false },
     ghost numbered: { given ≤ 65535 },
-    ghost named: { length picks.names ≡ 8 },
-    ghost unnamed: { none_from cores picks.names ≡ true },
-    ghost lasts: { going out (clock_of table) ≡ true },
+    ghost named: { fits_cores (length figures.items) round ≡ true },
+    ghost lasts: { going (is_some round) (clock_of table) ≡ true },
 }
 
 mod calls;
 mod making;
 mod placing;
 mod questions;
+mod whole;
+
+pub use whole::Whole;

@@ -1,4 +1,7 @@
 // Runs: a list of steps performed on an engine, before an observer.
+ghost use Rattle.engine.specs.Engines.{shown};
+ghost use Rattle.engine.specs.Along.{InHand, InHand-prop};
+
 use crate::answers::Round;
 use crate::engine::Engine;
 use rules::Call;
@@ -17,10 +20,11 @@ pub struct Finish<M, P> {
     pub complete: bool,
 }
 
-// The end of a part of a run: the round in hand, and whether no deal of a round was refused.
-struct Leg {
+// An engine with the round in hand, none where none is out.
+struct Runner<M, P> {
+    engine: Engine<M, P>,
     hand: Option<Round>,
-    complete: bool,
+    ghost held: { InHand hand (shown engine) } by { InHand-prop hand (shown engine) },
 }
 
 mod calls;

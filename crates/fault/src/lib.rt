@@ -4,20 +4,20 @@
 ghost use Rattle.std.specs.Prelude.{◌≡◌, ◌++◌, Some, codes, decimal};
 ghost use Rattle.fault.specs.declared.PlanFault.TheVariants.{Record};
 ghost use Rattle.fault.specs.declared.RecordFault.TheVariants.{Bits};
-ghost use Rattle.fault.specs.Faults.{cause_number, layer_word, plan_told, fault_line};
+ghost use Rattle.fault.specs.Faults.{cause_number, layer_word, flaw_cause, plan_told, fault_line};
 
-use std::fmt;
+use std::{error, fmt};
 
 #[derive(Clone, Copy, PartialEq, Eq, Debug)]
 pub enum Cause {
-    TooLong,
-    Short,
-    Mark,
-    Edition,
-    Spare,
-    Kind,
-    Range,
-    Trailing,
+    TooLong = 30,
+    Short = 31,
+    Mark = 32,
+    Edition = 33,
+    Spare = 34,
+    Kind = 35,
+    Range = 36,
+    Trailing = 37,
 }
 
 #[derive(Clone, Copy, PartialEq, Eq, Debug)]
@@ -79,20 +79,25 @@ impl From<RecordFault> for PlanFault {
     }
 }
 
+impl From<Flaw> for Cause {
+    ghost from_gives = { λ flaw r. r ≡ flaw_cause flaw };
+
+    fn from(flaw: Flaw) -> Cause {
+        match flaw {
+            Flaw::Mark => Cause::Mark,
+            Flaw::Edition => Cause::Edition,
+            Flaw::Spare => Cause::Spare,
+            Flaw::Kind => Cause::Kind,
+            Flaw::Range => Cause::Range,
+        }
+    }
+}
+
 impl Cause {
     pub fn number(self) -> u8
         ensures { result ≡ cause_number self }
     {
-        match self {
-            Cause::TooLong => 30,
-            Cause::Short => 31,
-            Cause::Mark => 32,
-            Cause::Edition => 33,
-            Cause::Spare => 34,
-            Cause::Kind => 35,
-            Cause::Range => 36,
-            Cause::Trailing => 37,
-        }
+        self as u8
     }
 }
 
@@ -108,21 +113,23 @@ impl Layer {
     }
 }
 
+impl fmt::Display for Layer {
+    ghost output = { λ l. Some (layer_word l) };
+
+    fn fmt<W: fmt::Write>(&self, f: &mut fmt::Formatter<W>) -> fmt::Result {
+        f.write_str(self.word())
+    }
+}
+
 impl PlanFault {
     pub fn cause(self) -> Cause
         ensures { result ≡ (plan_told self).cause }
     {
         match self {
             PlanFault::TooLong => Cause::TooLong,
-            PlanFault::Trailing(_) => Cause::Trailing,
             PlanFault::Record(RecordFault::Bits(_)) => Cause::Short,
-            PlanFault::Record(RecordFault::Field(flaw, _)) => match flaw {
-                Flaw::Mark => Cause::Mark,
-                Flaw::Edition => Cause::Edition,
-                Flaw::Spare => Cause::Spare,
-                Flaw::Kind => Cause::Kind,
-                Flaw::Range => Cause::Range,
-            },
+            PlanFault::Record(RecordFault::Field(flaw, _)) => flaw.into(),
+            PlanFault::Trailing(_) => Cause::Trailing,
         }
     }
 
@@ -158,7 +165,9 @@ impl fmt::Display for PlanFault {
     fn fmt<W: fmt::Write>(&self, f: &mut fmt::Formatter<W>) -> fmt::Result {
         let cause = self.cause().number();
         let Spot { byte, number } = self.spot();
-        let layer = self.layer().word();
+        let layer = self.layer();
         write!(f, "plan fault {cause} at {byte} record {number} in {layer}")
     }
 }
+
+impl error::Error for PlanFault {}

@@ -13,10 +13,7 @@ use terms::Terms;
 pub fn parts<M: Measure>(measure: &M, budget: u32, period: u32) -> Option<u32>
     ensures { result ≡ parts_of (M.Measure.price measure.now) budget period }
 {
-    match Terms::new(budget, period) {
-        Ok(terms) => measure.parts(terms),
-        Err(_) => None,
-    }
+    measure.parts(Terms::new(budget, period).ok()?)
 }
 
 // Whether the rounded measure shows the worked figures.
@@ -46,6 +43,7 @@ fn placed() -> bool
 }
 
 // The worked figures follow from the definitions, and the code shows them.
+#[tactic(auto, using(crate::proofs::Computed::figures))]
 pub fn worked() -> bool
     ensures figures { Figures }
     ensures shown { result ≡ true }

@@ -2,21 +2,12 @@
 use super::{parts, worked};
 use measure::{Catalogue, Measure, Rounded};
 use policy::{BestFit, FirstFit, Policy, WorstFit};
-use std::process::Abort;
 use std::test::Fail;
 use terms::{Refusal, Terms};
 
 #[test]
 fn figures_are_shown(rt: HostRuntime) {
     assert!(rt; worked());
-}
-
-// What the making of terms answers: 0, or the number of the refusal.
-fn refusal(budget: u32, period: u32) -> u32 {
-    match Terms::new(budget, period) {
-        Ok(_) => 0,
-        Err(refused) => refused.number(),
-    }
 }
 
 #[test]
@@ -29,7 +20,7 @@ fn terms_keep_to_their_limits(rt: HostRuntime) -> Result<(), Fail> {
         (1, 0),
         (u32::MAX, u32::MAX),
     ] {
-        assert_eq!(rt; refusal(budget, period), 4);
+        assert_eq!(rt; Terms::new(budget, period).map_err(Refusal::number), Err(4));
         assert_eq!(rt; parts(&Rounded, budget, period), None);
     }
     for (budget, period) in [(1_000_000, 1_000_000), (1, 1), (1, 1_000_000), (5, 5)] {
@@ -86,37 +77,38 @@ fn catalogue_takes_its_rows(rt: HostRuntime) {
     assert_eq!(rt; Catalogue.whole(), 1000);
 }
 
-// First, worst and best fit name these cores.
-fn named(
-    rt: &impl Abort,
-    rooms: &[u32],
-    parts: u32,
-    first: Option<usize>,
-    worst: Option<usize>,
-    best: Option<usize>,
-) {
-    assert_eq!(rt; FirstFit.choose(rooms, parts), first);
-    assert_eq!(rt; WorstFit.choose(rooms, parts), worst);
-    assert_eq!(rt; BestFit.choose(rooms, parts), best);
+// The cores that first, worst and best fit name.
+fn named(rooms: &[u32], parts: u32) -> [Option<usize>; 3] {
+    [
+        FirstFit.choose(rooms, parts),
+        WorstFit.choose(rooms, parts),
+        BestFit.choose(rooms, parts),
+    ]
 }
 
 #[test]
 fn fits_name_a_core(rt: HostRuntime) {
-    named(&rt, &[3, 9, 5], 4, Some(1), Some(1), Some(2));
-    named(&rt, &[9, 4, 4, 9], 4, Some(0), Some(0), Some(1));
-    named(&rt, &[3, 5, 9, 9, 5], 4, Some(1), Some(2), Some(1));
-    named(&rt, &[7, 6, 5, 4], 4, Some(0), Some(0), Some(3));
-    named(&rt, &[4, 5, 6, 7], 5, Some(1), Some(3), Some(1));
-    named(&rt, &[1, 2, 3, 4, 5, 6, 7, 8], 8, Some(7), Some(7), Some(7));
-    named(&rt, &[0, u32::MAX], u32::MAX, Some(1), Some(1), Some(1));
-    named(&rt, &[0, 0], 0, Some(0), Some(0), Some(0));
+    assert_eq!(rt; named(&[3, 9, 5], 4), [Some(1), Some(1), Some(2)]);
+    assert_eq!(rt; named(&[9, 4, 4, 9], 4), [Some(0), Some(0), Some(1)]);
+    assert_eq!(rt; named(&[3, 5, 9, 9, 5], 4), [Some(1), Some(2), Some(1)]);
+    assert_eq!(rt; named(&[7, 6, 5, 4], 4), [Some(0), Some(0), Some(3)]);
+    assert_eq!(rt; named(&[4, 5, 6, 7], 5), [Some(1), Some(3), Some(1)]);
+    assert_eq!(rt;
+        named(&[1, 2, 3, 4, 5, 6, 7, 8], 8),
+        [Some(7), Some(7), Some(7)]
+    );
+    assert_eq!(rt;
+        named(&[0, u32::MAX], u32::MAX),
+        [Some(1), Some(1), Some(1)]
+    );
+    assert_eq!(rt; named(&[0, 0], 0), [Some(0), Some(0), Some(0)]);
 }
 
 #[test]
 fn fits_name_none(rt: HostRuntime) {
-    named(&rt, &[3, 2, 1], 4, None, None, None);
-    named(&rt, &[0], 1, None, None, None);
-    named(&rt, &[], 0, None, None, None);
+    assert_eq!(rt; named(&[3, 2, 1], 4), [None, None, None]);
+    assert_eq!(rt; named(&[0], 1), [None, None, None]);
+    assert_eq!(rt; named(&[], 0), [None, None, None]);
 }
 
 #[test]

@@ -1,10 +1,12 @@
 -- The earliest tick, and what a purge takes and leaves.
 -- Assumes nothing.
-use Rattle.std.proofs.Common.{◌≡◌, ℕ, ◌+◌, ◌<◌, ◌≤◌, min, Bool, true, false, leb, List, [], ◌∷◌, length, take, set, Some, None, Decides, filter, Option, sym, refl, ap, ◌∙◌, arith}
-use Rattle.std.specs.List.{AllByRecursion}
-use Rattle.std.proofs.ByRecursion.{All-weaker, All-push, Decides-by_and}
+use Rattle.std.proofs.Common.{◌≡◌, ℕ, ◌+◌, ◌<◌, ◌≤◌, min, true, false, leb, List, [], ◌∷◌, length, take, set, Some, None, IfSome, Option, sym, refl, ap, ◌∙◌, arith}
+use Rattle.std.specs.List.{All}
 use Rattle.std.proofs.lemmas.List.{take_more_set, length-set}
-use Rattle.std.proofs.lemmas.Bool.{leb-true, le-leb, lt-ltb, le-ltb, cond-true, cond-false}
+use Rattle.std.proofs.lemmas.List.Elements.{All-head, All-tail}
+use Rattle.std.proofs.lemmas.List.Recursion.{and_push}
+use Rattle.std.proofs.lemmas.Bool.{le-leb, lt-ltb, le-ltb, cond-true, cond-false}
+use Rattle.std.proofs.lemmas.Bool.Decides.{nat_tests}
 use Rattle.calendar.specs.declared.Calendar.{Calendar}
 use Rattle.calendar.specs.Places.{counting, less, put_calendar, put_places}
 use Rattle.calendar.specs.Queues.{queue, first, after}
@@ -17,36 +19,34 @@ use Rattle.ledger.specs.Entries.{SameEntries, purged}
 use Rattle.ledger.specs.Lapses.{none_before, lapses_after}
 use Rattle.ledger.proofs.Order.{order, first_lapses}
 
--- each entry lapses at the tick t or later
-abbrev From : ℕ → Entry → Type 0
-From t e = t ≤ e.lapse
-
-tells_from : (t : ℕ) (es : List Entry) → Decides (none_before t es) (AllByRecursion (From t) es)
-tells_from t = Decides-by_and (λ e. leb t e.lapse) (From t) (none_before t) (λ e. (leb-true t e.lapse, le-leb t e.lapse)) refl (λ _ _. refl)
+none_before_less : (t m : ℕ) → m ≤ t → (es : List Entry) → none_before t es ≡ true → none_before m es ≡ true
+none_before_less t m le [] h = refl
+none_before_less t m le (e ∷ es) h = let more = none_before_less t m le es in grind (arith, nat_tests)
 
 -- one more at the end
 none_before_more : (t : ℕ) (e : Entry) (es : List Entry) (n : ℕ) → n < length es → none_before t (take n es) ≡ true → none_before (min t e.lapse) (take (n + 1) (set es n e)) ≡ true
 none_before_more t e es n h was =
-    let m : ℕ = min t e.lapse in
-    let all : AllByRecursion (From m) (take n es) = All-weaker (From t) (From m) (λ x le. omega arith) (take n es) ((tells_from t (take n es)).0 was) in
-    (tells_from m (take (n + 1) (set es n e))).1 (rw (take_more_set es n e) (All-push (From m) (take n es) e all (omega arith)))
+    let m = min t e.lapse in
+    let front = none_before_less t m (omega arith) (take n es) was in
+    let push = and_push (none_before m) (λ x. leb m x.lapse) refl (λ _ _. refl) (take n es) e in
+    rw (take_more_set es n e, push, front) (le-leb m e.lapse (omega arith))
 
 -- none lapses before the least one does
-pub none_before_first : (e : Entry) (es : List Entry) → Some e ≡ first (queue lapses_first es) → none_before e.lapse es ≡ true
-none_before_first e es is =
-    (tells_from e.lapse es).1 (All-weaker (λ y. lapses_first e y ≡ true) (From e.lapse) (first_lapses e) es (first_some order es e (sym is)).1)
+none_before_first : (e : Entry) (es : List Entry) → All (λ x. lapses_first e x ≡ true) es → none_before e.lapse es ≡ true
+none_before_first e [] all = refl
+none_before_first e (x ∷ es) all =
+    let more = none_before_first e es (All-tail (λ x. lapses_first e x ≡ true) x es all) in
+    let le = first_lapses e x (All-head (λ x. lapses_first e x ≡ true) x es all) in
+    grind (arith, nat_tests)
 
-pub none_before_none : (t : ℕ) (es : List Entry) → None ≡ first (queue lapses_first es) → none_before t es ≡ true
-none_before_none t es is = rw (first_none order es (sym is))
-
-kept_all : (p : Entry → Bool) (es : List Entry) → AllByRecursion (λ e. p e ≡ true) es → filter p es ≡ es
-kept_all p [] all = refl
-kept_all p (e ∷ es) all = rw all.0 (ap (λ l. e ∷ l) (kept_all p es all.1))
+pub none_before_least : (least : Option Entry) (t : ℕ) (es : List Entry) → least ≡ first (queue lapses_first es) → IfSome least (λ e. t ≡ e.lapse) → none_before t es ≡ true
+none_before_least None t es is at = rw (first_none order es (sym is))
+none_before_least (Some e) t es is at = rw at (none_before_first e es (first_some order es e (sym is)).1)
 
 -- where none lapses before a later tick, all stay
 pub purged_none : (clock t : ℕ) (es : List Entry) → clock < t → none_before t es ≡ true → purged clock es ≡ es
-purged_none clock t es lt h =
-    kept_all (lapses_after clock) es (All-weaker (From t) (λ e. lapses_after clock e ≡ true) (λ e le. lt-ltb clock e.lapse (omega arith)) es ((tells_from t es).0 h))
+purged_none clock t [] lt h = refl
+purged_none clock t (e ∷ es) lt h = let more = purged_none clock t es lt in grind (arith, nat_tests)
 
 -- what the ledger's ghost fields say
 pub record Sound (t : ℕ) (c : Calendar) (es : List Entry) : Type 0 where
@@ -74,7 +74,7 @@ less_count (Some e) c c' es is = rw is (omega arith)
 module _ (clock : ℕ) (start es : List Entry) (was : SameEntries (purged clock es) (purged clock start)) where
   -- the least stays: all do
   pub least_stays : (e : Entry) → Some e ≡ first (queue lapses_first es) → clock < e.lapse → SameEntries es (purged clock start)
-  least_stays e is lt = ap (queue lapses_first) (sym (purged_none clock e.lapse es lt (none_before_first e es is))) ∙ was
+  least_stays e is lt = ap (queue lapses_first) (sym (purged_none clock e.lapse es lt (none_before_least (Some e) e.lapse es is refl))) ∙ was
 
   -- none is left
   pub least_none : None ≡ first (queue lapses_first es) → SameEntries es (purged clock start)

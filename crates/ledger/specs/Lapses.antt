@@ -11,6 +11,10 @@ none_before t (e ∷ es) = nat_le t e.lapse && none_before t es
 abbrev pub lapses_after : ℕ → Entry → Bool
 lapses_after t e = nat_lt t e.lapse
 
+-- Core c counts the entry after the tick t.
+abbrev pub counts : ℕ → ℕ → Entry → Bool
+counts t c e = e.core == c && lapses_after t e
+
 -- What core c counts of an entry after the tick t.
 abbrev pub counted_parts : ℕ → ℕ → Entry → ℕ
-counted_parts t c e = cond (e.core == c && lapses_after t e) e.parts 0
+counted_parts t c e = cond (counts t c e) e.parts 0

@@ -20,14 +20,14 @@ mod tests {
     // A ledger of the listed entries.
     fn filled(entries: &[Entry]) -> Result<Ledger, Refusal> {
         let mut ledger = Ledger::new();
-        for e in entries {
-            ledger.write(*e)?;
+        for &entry in entries {
+            ledger.write(entry)?;
         }
         Ok(ledger)
     }
 
     #[test]
-    fn one_more_than_its_limit_is_refused(rt: HostRuntime) -> Result<(), Fail> {
+    fn one_more_than_its_limit_is_refused(rt: HostRuntime) {
         let mut ledger = Ledger::new();
         assert_eq!(rt; ledger.len(), 0);
         for number in 0..128 {
@@ -35,10 +35,8 @@ mod tests {
         }
         assert_eq!(rt; ledger.len(), 128);
         for lapse in [0, 1000, u32::MAX] {
-            match ledger.write(entry(lapse, 1, 1, 7)) {
-                Ok(()) => return Err(Fail::new("written")),
-                Err(refusal) => assert_eq!(rt; refusal.number(), 22),
-            }
+            let full = ledger.write(entry(lapse, 1, 1, 7));
+            assert_eq!(rt; full.map_err(Refusal::number), Err(22));
             assert_eq!(rt; ledger.len(), 128);
             assert_eq!(rt; ledger.departed(0, 0), 128);
             assert_eq!(rt; ledger.departed(0, 1), 0);
@@ -48,7 +46,6 @@ mod tests {
         assert_eq!(rt; ledger.len(), 127);
         assert_eq!(rt; ledger.write(entry(2000, 1, 1, 7)), Ok(()));
         assert_eq!(rt; ledger.departed(0, 1), 7);
-        Ok(())
     }
 
     #[test]

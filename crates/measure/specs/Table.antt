@@ -2,28 +2,26 @@
 use Rattle.std.specs.Prelude.{◌≡◌, ℕ, ◌*◌, ◌≤◌, Bool, true, ◌&&◌, List, [], ◌∷◌, Some, nat_le, refl}
 use Rattle.std.proofs.Common.{arith, lit≤}
 use Rattle.std.proofs.lemmas.Bool.Decides.{nat_tests}
+use Rattle.std.specs.List.{list_all}
 use Rattle.measure.specs.Laws.{Lawful}
 use Rattle.measure.specs.Meanings.{catalogue_whole, rows, priced, catalogue}
+use Rattle.measure.specs.declared.rows.Row.{Row}
 
 -- the parts cover the budget's share of the whole, and are 1 to the whole
 abbrev fair : ℕ → ℕ → ℕ → ℕ → Bool
 fair whole budget period parts = nat_le (budget * whole) (parts * period) && nat_le 1 parts && nat_le parts whole
 
 -- the test over all rows
-abbrev every : ℕ → List (ℕ × ℕ × ℕ) → Bool
-every whole [] = true
-every whole (row ∷ others) = fair whole row.0 row.1 row.2 && every whole others
-
-every_rest : (whole : ℕ) (row : ℕ × ℕ × ℕ) (others : List (ℕ × ℕ × ℕ)) → every whole (row ∷ others) ≡ true → every whole others ≡ true
-every_rest whole row others h = grind (arith, nat_tests)
+abbrev every : ℕ → List Row → Bool
+every whole = list_all (λ r. fair whole r.budget r.period r.parts)
 
 -- what the test says of each answer
 priced_fair :
-    (whole : ℕ) (table : List (ℕ × ℕ × ℕ)) → every whole table ≡ true
+    (whole : ℕ) (table : List Row) → every whole table ≡ true
     → (budget period parts : ℕ) → priced table budget period ≡ Some parts → fair whole budget period parts ≡ true
-priced_fair whole [] h budget period parts e = absurd (let z : ◌≡◌ {A = ℕ} 0 1 = cc in omega arith)
-priced_fair whole (row ∷ others) h budget period parts e =
-    let rest = priced_fair whole others (every_rest whole row others h) budget period parts in
+priced_fair whole [] h budget period parts e = cc
+priced_fair whole (r ∷ others) h budget period parts e =
+    let rest = priced_fair whole others in
     grind (arith, nat_tests)
 
 all_fair : every catalogue_whole rows ≡ true

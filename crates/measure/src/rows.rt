@@ -1,25 +1,68 @@
 // The catalogue: a measure that takes the terms of its rows.
-ghost use Rattle.std.specs.Prelude.{◌≡◌};
-ghost use Rattle.measure.specs.Meanings.{catalogue_whole, catalogue, priced};
+ghost use Rattle.measure.specs.Meanings.{catalogue_whole, catalogue};
 ghost use Rattle.measure.specs.Table.{catalogue_lawful};
 
 use crate::Measure;
 use terms::Terms;
 
-// Budget, period and parts.
-type Row = (u32, u32, u32);
+// Terms that the catalogue takes, and their parts.
+struct Row {
+    budget: u32,
+    period: u32,
+    parts: u32,
+}
 
 const ROWS: [Row; 10] = [
-    (4, 20, 200),
-    (10, 50, 220),
-    (3, 100, 30),
-    (7, 30, 234),
-    (1, 3, 334),
-    (25, 200, 125),
-    (40, 1000, 40),
-    (5, 7, 715),
-    (1, 1_000_000, 1),
-    (60, 240, 250),
+    Row {
+        budget: 4,
+        period: 20,
+        parts: 200,
+    },
+    Row {
+        budget: 10,
+        period: 50,
+        parts: 220,
+    },
+    Row {
+        budget: 3,
+        period: 100,
+        parts: 30,
+    },
+    Row {
+        budget: 7,
+        period: 30,
+        parts: 234,
+    },
+    Row {
+        budget: 1,
+        period: 3,
+        parts: 334,
+    },
+    Row {
+        budget: 25,
+        period: 200,
+        parts: 125,
+    },
+    Row {
+        budget: 40,
+        period: 1000,
+        parts: 40,
+    },
+    Row {
+        budget: 5,
+        period: 7,
+        parts: 715,
+    },
+    Row {
+        budget: 1,
+        period: 1_000_000,
+        parts: 1,
+    },
+    Row {
+        budget: 60,
+        period: 240,
+        parts: 250,
+    },
 ];
 
 #[derive(Clone, Copy, Debug)]
@@ -37,18 +80,8 @@ impl Measure for Catalogue {
     }
 
     fn parts(&self, terms: Terms) -> Option<u32> {
-        find(&ROWS, terms.budget(), terms.period())
+        ROWS.iter()
+            .find(|row| row.budget == terms.budget() && row.period == terms.period())
+            .map(|row| row.parts)
     }
-}
-
-// The parts in the first row with this budget and this period.
-fn find(rows: &[Row], budget: u32, period: u32) -> Option<u32>
-    ensures { result ≡ priced rows.now budget period }
-{
-    for &(q, p, parts) in rows {
-        if q == budget && p == period {
-            return Some(parts);
-        }
-    }
-    None
 }

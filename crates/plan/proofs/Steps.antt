@@ -1,22 +1,27 @@
 -- One event after another.
-use Rattle.std.proofs.Common.{◌≡◌, ℕ, true, false, List, length, Ok, Err}
+use Rattle.std.proofs.Common.{◌≡◌, ℕ, ◌<◌, ◌≤◌, true, false, List, length, Ok, Err}
+use Rattle.std.proofs.lemmas.Bool.{le-leb, lt-leb}
 use Rattle.fault.specs.declared.Spot.{Spot}
-use Rattle.plan.specs.declared.event.Kind.{Kind}
 use Rattle.plan.specs.Bits.{spot_of}
 use Rattle.fault.specs.Faults.{Fault, trailing}
 use Rattle.plan.specs.Records.{Row, event_of}
-use Rattle.plan.specs.Plans.{placed, step_of}
+use Rattle.plan.specs.Plans.{is_end, step_of}
 
 module _ (bs : List ℕ) (o : Spot) where
   pub step_fault : (e : Fault) → Err e ≡ event_of bs o → Err e ≡ step_of bs o
   unfolding step_of
   step_fault e h = rw (← h)
 
-  module _ {e : Row} {k : Kind} (h : Ok e ≡ event_of bs o) (kind : k ≡ e.kind) where
-    pub step_trailing : false ≡ placed k (length bs) → Err (trailing (spot_of o 64)) ≡ step_of bs o
+  module _ {e : Row} (h : Ok e ≡ event_of bs o) where
+    pub step_on : is_end e.kind ≡ false → Ok e ≡ step_of bs o
     unfolding step_of
-    step_trailing p = rw (← h, ← kind, ← p)
+    step_on k = rw (← h, k)
 
-    pub step_event : true ≡ placed k (length bs) → Ok e ≡ step_of bs o
-    unfolding step_of
-    step_event p = rw (← h, ← kind, ← p)
+    module _ (k : is_end e.kind ≡ true) where
+      pub step_end : length bs ≤ 8 → Ok e ≡ step_of bs o
+      unfolding step_of
+      step_end l = rw (← h, k, le-leb (length bs) 8 l)
+
+      pub step_trailing : 8 < length bs → Err (trailing (spot_of o 64)) ≡ step_of bs o
+      unfolding step_of
+      step_trailing l = rw (← h, k, lt-leb (length bs) 8 l)

@@ -1,5 +1,5 @@
 -- The layout of a plan's header.
-use Rattle.std.specs.Prelude.{ℕ, zero, suc, ◌+◌, ◌-◌, ◌*◌, ◌/◌, cond, ◌&&◌, List, replicate, Some, None, Ok, Option, Result, ◌==◌, nat_le, slice_set}
+use Rattle.std.specs.Prelude.{◌≡◌, ◌≤◌, All, length, take, ℕ, zero, suc, ◌+◌, ◌-◌, ◌*◌, ◌/◌, cond, ◌&&◌, List, replicate, Some, None, Ok, Option, Result, ◌==◌, nat_le, slice_set}
 use Rattle.fault.specs.declared.Flaw.{Flaw}
 use Rattle.fault.specs.declared.Spot.{Spot}
 use Rattle.plan.specs.declared.header.Header.{Header}
@@ -75,3 +75,14 @@ header_of bs =
     then (bounds_of bs setup.cores) (λ bounds.
     then (filling_of bs setup.cores) (λ _.
     Ok (record { cores = setup.cores; measure = setup.measure; policy = setup.policy; start = start; bounds = bounds }))))))
+
+-- What every accepted header keeps to: 1 to 8 cores, a start of at most 4,000,000,000, and a B of 1 to 1,000 for each core.
+abbrev pub IsBound : ℕ → Type 0
+IsBound b = (1 ≤ b) × (b ≤ 1000)
+
+pub record IsWithinLimits (h : Header) : Type 0 where
+  pub some : 1 ≤ h.cores
+  pub few : h.cores ≤ 8
+  pub start : h.start ≤ 4000000000
+  pub places : length h.bounds ≡ 8
+  pub bounds : All IsBound (take h.cores h.bounds)

@@ -1,5 +1,7 @@
 -- A whole plan: a header, then events up to the end record, and nothing after it.
-use Rattle.std.specs.Prelude.{◌≡◌, ℕ, zero, suc, ◌+◌, ◌-◌, ◌/◌, Bool, true, false, cond, List, [], ◌∷◌, map, length, drop, Some, None, Ok, Err, vec_items, Option, Result, nat_le}
+use Rattle.std.specs.Prelude.{◌≡◌, codes, ℕ, zero, suc, ◌+◌, ◌-◌, ◌/◌, Bool, true, false, cond, List, [], ◌∷◌, map, length, drop, Some, None, Ok, Err, vec_items, Option, Result, nat_le, is_none, unwrap_or}
+use Rattle.std.specs.Option.{option_copied}
+use Rattle.std.specs.Borrow.{Bor}
 use Rattle.fault.specs.declared.Spot.{Spot}
 use Rattle.plan.specs.declared.event.Kind.{Kind}
 use Rattle.plan.specs.declared.header.Header.{Header}
@@ -7,7 +9,7 @@ use Rattle.plan.specs.declared.events.Events.{Events}
 use Rattle.plan.specs.declared.reading.Plan.{Plan}
 use Rattle.plan.specs.declared.reading.PlanError.{PlanError}
 use Rattle.plan.specs.Bits.{spot_of, then, given}
-use Rattle.fault.specs.Faults.{Fault, too_long, trailing, plan_told}
+use Rattle.fault.specs.Faults.{Fault, too_long, trailing, plan_told, fault_line}
 use Rattle.plan.specs.Headers.{header_length, header_of}
 use Rattle.plan.specs.Records.{Row, event_of, row_of}
 
@@ -45,8 +47,12 @@ pub record Reader : Type 0 where
   pub first : ℕ
   pub ended : Bool
 
+-- The bytes to come: none past the end record.
+abbrev pub unread : Option (Bor (List ℕ)) → List ℕ
+unread rest = unwrap_or (option_copied rest) []
+
 abbrev pub reader_of : Events → Reader
-reader_of e = record { rest = e.rest.now; total = e.total; first = e.first; ended = e.ended }
+reader_of e = record { rest = unread e.rest; total = e.total; first = e.first; ended = is_none e.rest }
 
 -- Where the next record starts: so far into the plan, and the first event is record 1.
 abbrev pub next_spot : Reader → Spot
@@ -105,3 +111,8 @@ abbrev pub Answers : {A B : Type 0} → (A → B) → Result A PlanError → Res
 Answers f (Ok x) w = Ok (f x) ≡ w
 Answers f (Err (PlanError.Fault e)) w = Err (plan_told e) ≡ w
 Answers f (Err PlanError.Memory) w = Unit {0}
+
+-- What a plan that is not read prints: its fault's line, or that memory failed.
+abbrev pub error_line : PlanError → List ℕ
+error_line (PlanError.Fault e) = fault_line (plan_told e)
+error_line PlanError.Memory = codes "out of memory"

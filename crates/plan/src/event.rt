@@ -1,10 +1,15 @@
 // An event's record: eight bytes with a kind and three figures.
-ghost use Rattle.std.specs.Prelude.{◌≡◌, ◌^◌, ◌<◌, ◌≤◌, true, length, drop, IfOk, Err, MatchOption};
-ghost use Rattle.fault.specs.Faults.{told, shown, record_told};
+ghost use Rattle.std.specs.Prelude.{◌≡◌, ◌<◌, true, [], length, drop, Some, IfOk, Ok, Err};
+ghost use Rattle.std.specs.Option.{ok_or};
+ghost use Rattle.fault.specs.Faults.{told, shown, record_told, wrong};
+ghost use Rattle.plan.specs.Bits.{spot_of, given, named};
 ghost use Rattle.plan.specs.Records.{kind_of, kind_word, lacks_a, lacks_b, proper, Unpacked, front_of, event_of, row_of, row_with};
+ghost use Rattle.plan.specs.Plans.{is_end};
 
-use crate::field::{field, flawed, spot};
-use fault::{BitFault, Flaw, RecordFault, Spot};
+use crate::field::{Field, Input};
+use crate::unnamed::Unnamed;
+use fault::{BitFault, Flaw, RecordFault};
+use std::fmt;
 
 #[derive(Clone, Copy, PartialEq, Eq, Debug)]
 pub enum Kind {
@@ -27,6 +32,50 @@ impl Kind {
             Kind::Leave => "leave",
             Kind::Move => "move",
             Kind::End => "end",
+        }
+    }
+
+    pub(crate) fn is_end(self) -> bool
+        ensures { result ≡ is_end self }
+    {
+        matches!(self, Kind::End)
+    }
+
+    fn lacks_a(self) -> bool
+        ensures { result ≡ lacks_a self }
+    {
+        self.is_end()
+    }
+
+    fn lacks_b(self) -> bool
+        ensures { result ≡ lacks_b self }
+    {
+        matches!(self, Kind::Wake | Kind::Rest | Kind::Leave | Kind::End)
+    }
+}
+
+impl fmt::Display for Kind {
+    ghost output = { λ k. Some (kind_word k) };
+
+    fn fmt<W: fmt::Write>(&self, f: &mut fmt::Formatter<W>) -> fmt::Result {
+        f.write_str(self.word())
+    }
+}
+
+impl TryFrom<u32> for Kind {
+    type Error = Unnamed;
+
+    ghost try_from_gives = { λ n r. r ≡ ok_or (kind_of n) (record { 0 = n }) };
+
+    fn try_from(n: u32) -> Result<Kind, Unnamed> {
+        match n {
+            1 => Ok(Kind::Admit),
+            2 => Ok(Kind::Wake),
+            3 => Ok(Kind::Rest),
+            4 => Ok(Kind::Leave),
+            5 => Ok(Kind::Move),
+            6 => Ok(Kind::End),
+            _ => Err(Unnamed(n)),
         }
     }
 }
@@ -91,12 +140,12 @@ impl Event<'_> {
         ensures { result ≡ (row_of self.entry).gap }
     {
         match self {
-            Event::Admit { gap, .. } => gap,
-            Event::Wake { gap, .. } => gap,
-            Event::Rest { gap, .. } => gap,
-            Event::Leave { gap, .. } => gap,
-            Event::Move { gap, .. } => gap,
-            Event::End { gap, .. } => gap,
+            Event::Admit { gap, .. }
+            | Event::Wake { gap, .. }
+            | Event::Rest { gap, .. }
+            | Event::Leave { gap, .. }
+            | Event::Move { gap, .. }
+            | Event::End { gap, .. } => gap,
         }
     }
 }
@@ -107,17 +156,26 @@ impl<'a> Event<'a> {
         ensures { (result.bytes.now ≡ (row_of self.entry).bytes) × (result.place ≡ (row_of self.entry).place) }
     {
         match self {
-            Event::Admit { source, .. } => source,
-            Event::Wake { source, .. } => source,
-            Event::Rest { source, .. } => source,
-            Event::Leave { source, .. } => source,
-            Event::Move { source, .. } => source,
-            Event::End { source, .. } => source,
+            Event::Admit { source, .. }
+            | Event::Wake { source, .. }
+            | Event::Rest { source, .. }
+            | Event::Leave { source, .. }
+            | Event::Move { source, .. }
+            | Event::End { source, .. } => source,
         }
     }
 }
 
-// A record's four fields.
+// The fields of a record.
+const KIND: Field = Field { at: 0, width: 4 };
+
+const GAP: Field = Field { at: 4, width: 20 };
+
+const A: Field = Field { at: 24, width: 20 };
+
+const B: Field = Field { at: 44, width: 20 };
+
+// A record's four figures.
 #[derive(Clone, Copy)]
 struct Figures {
     kind: u32,
@@ -134,81 +192,53 @@ struct Front {
     a: u32,
 }
 
-// The fields of the first eight bytes, and the bytes after them.
-fn unpack(bytes: &[u8]) -> Option<(Figures, &[u8])>
-    ensures { MatchOption result (length bytes.now < 8) (λ p. Unpacked bytes.now p.0 p.1.now) }
+fn unpack(eight: &[u8; 8]) -> Figures
+    ensures { Unpacked eight.now result [] }
 {
-    let [b0, b1, b2, b3, b4, b5, b6, b7, rest @ ..] = bytes else {
-        return None;
-    };
-    let figures = Figures {
-        kind: *b0 as u32 / 16,
-        gap: (*b0 as u32 % 16) * 65_536 + *b1 as u32 * 256 + *b2 as u32,
-        a: *b3 as u32 * 4096 + *b4 as u32 * 16 + *b5 as u32 / 16,
-        b: (*b5 as u32 % 16) * 65_536 + *b6 as u32 * 256 + *b7 as u32,
-    };
-    Some((figures, rest))
-}
-
-fn kind_of(n: u32) -> Option<Kind>
-    ensures { result ≡ kind_of n }
-{
-    match n {
-        1 => Some(Kind::Admit),
-        2 => Some(Kind::Wake),
-        3 => Some(Kind::Rest),
-        4 => Some(Kind::Leave),
-        5 => Some(Kind::Move),
-        6 => Some(Kind::End),
-        _ => None,
+    let [b0, b1, b2, b3, b4, b5, b6, b7] = *eight;
+    Figures {
+        kind: b0 as u32 / 16,
+        gap: (b0 as u32 % 16) * 65_536 + b1 as u32 * 256 + b2 as u32,
+        a: b3 as u32 * 4096 + b4 as u32 * 16 + b5 as u32 / 16,
+        b: (b5 as u32 % 16) * 65_536 + b6 as u32 * 256 + b7 as u32,
     }
 }
 
-fn lacks_a(kind: Kind) -> bool
-    ensures { result ≡ lacks_a kind }
+// The kind that the record's first field names.
+fn name_kind(input: Input, n: u32) -> Result<Kind, RecordFault>
+    ensures { told record_told result ≡ named (kind_of n) (wrong Flaw.Kind (spot_of input.entry.start 0)) }
 {
-    matches!(kind, Kind::End)
-}
-
-fn lacks_b(kind: Kind) -> bool
-    ensures { result ≡ lacks_b kind }
-{
-    matches!(kind, Kind::Wake | Kind::Rest | Kind::Leave | Kind::End)
+    let unknown = input.flawed(Flaw::Kind, KIND);
+    Kind::try_from(n).map_err(|_| unknown)
 }
 
 // A figure that the kind lacks has to be zero.
-fn is_proper(lacks: bool, n: u32) -> bool
-    ensures { result ≡ proper lacks n }
+fn check_figure(input: Input, field: Field, n: u32, lacks: bool) -> Result<(), RecordFault>
+    ensures { told record_told result ≡ given (proper lacks n) (wrong Flaw.Range (spot_of input.entry.start field.at)) (Ok tt) }
 {
-    !lacks || n == 0
+    input.check(!lacks || n == 0, Flaw::Range, field)
 }
 
 // Kind, gap and A of a record that may be cut short.
-fn read_front(bytes: &[u8], start: Spot) -> Result<Front, RecordFault>
-    requires { start.byte < 2 ^ 32 }
-    ensures { told record_told result ≡ front_of bytes.now start }
+fn read_front(input: Input) -> Result<Front, RecordFault>
+    ensures { told record_told result ≡ front_of input.entry.bytes.now input.entry.start }
 {
-    let Some(kind) = kind_of(field(bytes, start, 0, 4)?) else {
-        return Err(flawed(Flaw::Kind, start, 0));
-    };
-    let gap = field(bytes, start, 4, 20)?;
-    let a = field(bytes, start, 24, 20)?;
-    if !is_proper(lacks_a(kind), a) {
-        return Err(flawed(Flaw::Range, start, 24));
-    }
+    let kind = name_kind(input, input.read(KIND)?)?;
+    let gap = input.read(GAP)?;
+    let a = input.read(A)?;
+    check_figure(input, A, a, kind.lacks_a())?;
     Ok(Front { kind, gap, a })
 }
 
 // The fault of a record that is cut short.
-fn cut(bytes: &[u8], start: Spot) -> RecordFault
-    requires less { length bytes.now < 8 }
-    requires low { start.byte < 2 ^ 32 }
-    ensures { Err (record_told result) ≡ event_of bytes.now start }
+fn cut(input: Input) -> RecordFault
+    requires { length input.bytes.now < 8 }
+    ensures { Err (record_told result) ≡ event_of input.entry.bytes.now input.entry.start }
 {
-    match read_front(bytes, start) {
+    match read_front(input) {
         Err(fault) => fault,
         Ok(_) => RecordFault::Bits(BitFault {
-            at: spot(start, 44),
+            at: input.spot(B.at),
         }),
     }
 }
@@ -251,33 +281,21 @@ fn event_of<'a>(kind: Kind, figures: Figures, source: Source<'a>) -> Event<'a>
     }
 }
 
-// The event at the front of the bytes, and the bytes after it.
-pub(crate) fn read_event<'a>(
-    bytes: &'a [u8],
-    start: Spot,
-) -> Result<(Event<'a>, &'a [u8]), RecordFault>
-    requires { start.byte < 2 ^ 32 }
-    ensures answer { shown (λ p. row_of p.0) (told record_told result) ≡ event_of bytes.now start }
-    ensures rest { IfOk result (λ p. p.1.now ≡ drop 8 bytes.now) }
+// The event at the front of the input, and the bytes after it.
+pub(crate) fn read_event<'a>(input: Input<'a>) -> Result<(Event<'a>, &'a [u8]), RecordFault>
+    ensures answer { shown (λ p. row_of p.0) (told record_told result) ≡ event_of input.entry.bytes.now input.entry.start }
+    ensures rest { IfOk result (λ p. p.1.now ≡ drop 8 input.entry.bytes.now) }
 {
-    let Some((figures, rest)) = unpack(bytes) else {
-        return Err(cut(bytes, start));
+    let Some((eight, rest)) = input.bytes.split_first_chunk::<8>() else {
+        return Err(cut(input));
     };
-    let Some(eight) = bytes.first_chunk::<8>() else {
-        return Err(cut(bytes, start));
-    };
-    let Some(kind) = kind_of(figures.kind) else {
-        return Err(flawed(Flaw::Kind, start, 0));
-    };
-    if !is_proper(lacks_a(kind), figures.a) {
-        return Err(flawed(Flaw::Range, start, 24));
-    }
-    if !is_proper(lacks_b(kind), figures.b) {
-        return Err(flawed(Flaw::Range, start, 44));
-    }
+    let figures = unpack(eight);
+    let kind = name_kind(input, figures.kind)?;
+    check_figure(input, A, figures.a, kind.lacks_a())?;
+    check_figure(input, B, figures.b, kind.lacks_b())?;
     let source = Source {
         bytes: eight,
-        place: start.byte,
+        place: input.start.byte,
     };
     Ok((event_of(kind, figures, source), rest))
 }

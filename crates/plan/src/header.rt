@@ -1,10 +1,13 @@
 // The header: marks, setup, start, a bound for each core, and filling.
-ghost use Rattle.std.specs.Prelude.{◌≡◌, ◌<◌, ◌≤◌, min, length, take, IfOk, OnOk};
-ghost use Rattle.fault.specs.Faults.{told, record_told};
-ghost use Rattle.plan.specs.Headers.{marks_of, measure_of, policy_of, setup_of, start_of, bound_of, bounds_of, header_length, filling_of, header_of};
+ghost use Rattle.std.specs.Prelude.{◌≡◌, ◌-◌, ◌*◌, ◌<◌, ◌≤◌, ◌&&◌, min, cond, Some, None, length, take, IfOk, OnOk, nat_le};
+ghost use Rattle.std.specs.Option.{ok_or};
+ghost use Rattle.fault.specs.Faults.{told, shown, record_told};
+ghost use Rattle.plan.specs.Headers.{marks_of, measure_of, policy_of, setup_of, start_of, bound_bit, bound_of, bounds_of, header_length, filling_of, header_of};
 
-use crate::field::{field, flawed};
-use fault::{Flaw, RecordFault, Spot};
+use crate::field::{Field, Input};
+use crate::unnamed::Unnamed;
+use fault::{Flaw, RecordFault};
+use std::marker::Model;
 
 #[derive(Clone, Copy, PartialEq, Eq, Debug)]
 pub enum MeasureKind {
@@ -17,6 +20,33 @@ pub enum PolicyKind {
     First,
     Worst,
     Best,
+}
+
+impl From<bool> for MeasureKind {
+    ghost from_gives = { λ b r. r ≡ measure_of (cond b 1 0) };
+
+    fn from(bit: bool) -> MeasureKind {
+        if bit {
+            MeasureKind::Catalogue
+        } else {
+            MeasureKind::Rounded
+        }
+    }
+}
+
+impl TryFrom<u32> for PolicyKind {
+    type Error = Unnamed;
+
+    ghost try_from_gives = { λ n r. r ≡ ok_or (policy_of n) (record { 0 = n }) };
+
+    fn try_from(n: u32) -> Result<PolicyKind, Unnamed> {
+        match n {
+            0 => Ok(PolicyKind::First),
+            1 => Ok(PolicyKind::Worst),
+            2 => Ok(PolicyKind::Best),
+            _ => Err(Unnamed(n)),
+        }
+    }
 }
 
 // The bounds of the first `cores` places are the cores' own; the other places hold 0.
@@ -39,74 +69,119 @@ impl Header {
     }
 }
 
+// The fields of a header before its bounds.
+const MARK: Field = Field { at: 0, width: 12 };
+
+const EDITION: Field = Field { at: 12, width: 4 };
+
+const CORES: Field = Field { at: 16, width: 4 };
+
+const MEASURE: Field = Field { at: 20, width: 1 };
+
+const POLICY: Field = Field { at: 21, width: 2 };
+
+const SPARE: Field = Field { at: 23, width: 1 };
+
+const START: Field = Field { at: 24, width: 32 };
+
+const PLAN_MARK: u32 = 0xCB5;
+
+const PLAN_EDITION: u32 = 1;
+
+const LATEST_START: u32 = 4_000_000_000;
+
+// The bit where the bound of core k starts; after those of all k cores the filling starts.
+fn bound_bit(k: usize) -> usize
+    requires { k ≤ 8 }
+    ensures { result ≡ bound_bit k }
+{
+    56 + 10 * k
+}
+
+// How many cores a plan has: 1 to 8.
 #[derive(Clone, Copy)]
+struct Cores(u8);
+
+impl Model for Cores {
+    ghost use Rattle.std.specs.Prelude.{ℕ, ◌≤◌};
+
+    ghost Value = { ℕ };
+
+    ghost view = { λ c. c.0 };
+
+    ghost invariant = { λ c. (1 ≤ c.0) × (c.0 ≤ 8) };
+
+    ghost inverse = { λ n. record { 0 = n } };
+}
+
+impl Cores {
+    fn new(n: u32) -> Option<Cores>
+        ensures { result ≡ cond (nat_le 1 n && nat_le n 8) (Some n) None }
+    {
+        if n < 1 || n > 8 {
+            None
+        } else {
+            Some(Cores(n as u8))
+        }
+    }
+
+    fn count(self) -> u8
+        ensures value { result ≡ self }
+        ensures few { result ≤ 8 }
+    {
+        self.0
+    }
+
+    // How many bytes the header has.
+    fn header_length(self) -> usize
+        ensures { result ≡ header_length self }
+    {
+        (bound_bit(self.0 as usize) + 7) / 8
+    }
+
+    // The bits from the last bound to the byte's end.
+    fn filling(self) -> Field
+        ensures at { result.at ≡ bound_bit self }
+        ensures width { result.width ≡ 8 * header_length self - bound_bit self }
+    {
+        let at = bound_bit(self.0 as usize);
+        Field {
+            at,
+            width: 8 * self.header_length() - at,
+        }
+    }
+}
+
 struct Setup {
-    cores: u8,
+    cores: Cores,
     measure: MeasureKind,
     policy: PolicyKind,
 }
 
-const MARK: u32 = 0xCB5;
-
-const EDITION: u32 = 1;
-
-const LATEST_START: u32 = 4_000_000_000;
-
-const ORIGIN: Spot = Spot { byte: 0, number: 0 };
-
 fn read_marks(bytes: &[u8]) -> Result<(), RecordFault>
     ensures { told record_told result ≡ marks_of bytes.now }
 {
-    let mark = field(bytes, ORIGIN, 0, 12)?;
-    if mark != MARK {
-        return Err(flawed(Flaw::Mark, ORIGIN, 0));
-    }
-    let edition = field(bytes, ORIGIN, 12, 4)?;
-    if edition != EDITION {
-        return Err(flawed(Flaw::Edition, ORIGIN, 12));
-    }
-    Ok(())
-}
-
-fn measure_kind(n: u32) -> MeasureKind
-    ensures { result ≡ measure_of n }
-{
-    if n == 0 {
-        MeasureKind::Rounded
-    } else {
-        MeasureKind::Catalogue
-    }
-}
-
-fn policy_kind(n: u32) -> Option<PolicyKind>
-    ensures { result ≡ policy_of n }
-{
-    match n {
-        0 => Some(PolicyKind::First),
-        1 => Some(PolicyKind::Worst),
-        2 => Some(PolicyKind::Best),
-        _ => None,
-    }
+    let input = Input::first(bytes);
+    let mark = input.read(MARK)?;
+    input.check(mark == PLAN_MARK, Flaw::Mark, MARK)?;
+    let edition = input.read(EDITION)?;
+    input.check(edition == PLAN_EDITION, Flaw::Edition, EDITION)
 }
 
 fn read_setup(bytes: &[u8]) -> Result<Setup, RecordFault>
-    ensures answer { told record_told result ≡ setup_of bytes.now }
-    ensures room { IfOk result (λ s. s.cores ≤ 8) }
+    ensures { told record_told result ≡ setup_of bytes.now }
 {
-    let cores = field(bytes, ORIGIN, 16, 4)?;
-    if cores < 1 || cores > 8 {
-        return Err(flawed(Flaw::Range, ORIGIN, 16));
-    }
-    let measure = measure_kind(field(bytes, ORIGIN, 20, 1)?);
-    let Some(policy) = policy_kind(field(bytes, ORIGIN, 21, 2)?) else {
-        return Err(flawed(Flaw::Range, ORIGIN, 21));
+    let input = Input::first(bytes);
+    let Some(cores) = Cores::new(input.read(CORES)?) else {
+        return Err(input.flawed(Flaw::Range, CORES));
     };
-    let spare = field(bytes, ORIGIN, 23, 1)?;
-    if spare != 0 {
-        return Err(flawed(Flaw::Spare, ORIGIN, 23));
-    }
+    let measure = MeasureKind::from(input.read(MEASURE)? != 0);
+    let unknown = input.flawed(Flaw::Range, POLICY);
+    let policy = PolicyKind::try_from(input.read(POLICY)?).map_err(|_| unknown)?;
+    let spare = input.read(SPARE)?;
+    input.check(spare == 0, Flaw::Spare, SPARE)?;
     Ok(Setup {
-        cores: cores as u8,
+        cores,
         measure,
         policy,
     })
@@ -115,10 +190,9 @@ fn read_setup(bytes: &[u8]) -> Result<Setup, RecordFault>
 fn read_start(bytes: &[u8]) -> Result<u32, RecordFault>
     ensures { told record_told result ≡ start_of bytes.now }
 {
-    let start = field(bytes, ORIGIN, 24, 32)?;
-    if start > LATEST_START {
-        return Err(flawed(Flaw::Range, ORIGIN, 24));
-    }
+    let input = Input::first(bytes);
+    let start = input.read(START)?;
+    input.check(start <= LATEST_START, Flaw::Range, START)?;
     Ok(start)
 }
 
@@ -126,50 +200,39 @@ fn read_bound(bytes: &[u8], core: usize) -> Result<u16, RecordFault>
     requires { core < 8 }
     ensures { told record_told result ≡ bound_of bytes.now core }
 {
-    let place = 56 + 10 * core;
-    let bound = field(bytes, ORIGIN, place, 10)?;
-    if bound < 1 || bound > 1000 {
-        return Err(flawed(Flaw::Range, ORIGIN, place));
-    }
+    let input = Input::first(bytes);
+    let field = Field {
+        at: bound_bit(core),
+        width: 10,
+    };
+    let bound = input.read(field)?;
+    input.check(1 <= bound && bound <= 1000, Flaw::Range, field)?;
     Ok(bound as u16)
 }
 
-fn read_bounds(bytes: &[u8], cores: u8) -> Result<[u16; 8], RecordFault>
-    requires { cores ≤ 8 }
+fn read_bounds(bytes: &[u8], cores: Cores) -> Result<[u16; 8], RecordFault>
     ensures { told record_told result ≡ bounds_of bytes.now cores }
 {
     let mut bounds = [0; 8];
-    for core in 0..cores as usize {
-        bounds[core] = read_bound(bytes, core)?;
+    for (core, bound) in bounds[..cores.count() as usize].iter_mut().enumerate() {
+        *bound = read_bound(bytes, core)?;
     }
     Ok(bounds)
 }
 
-// How many bytes the header of so many cores has.
-pub(crate) fn header_length(cores: u8) -> usize
-    requires { cores ≤ 8 }
-    ensures { result ≡ header_length cores }
-{
-    (56 + 10 * cores as usize + 7) / 8
-}
-
-fn read_filling(bytes: &[u8], cores: u8) -> Result<(), RecordFault>
-    requires { cores ≤ 8 }
+fn read_filling(bytes: &[u8], cores: Cores) -> Result<(), RecordFault>
     ensures answer { told record_told result ≡ filling_of bytes.now cores }
     ensures room { OnOk result (header_length cores ≤ length bytes.now) }
 {
-    let place = 56 + 10 * cores as usize;
-    let filling = field(bytes, ORIGIN, place, 8 * header_length(cores) - place)?;
-    if filling != 0 {
-        return Err(flawed(Flaw::Spare, ORIGIN, place));
-    }
-    Ok(())
+    let input = Input::first(bytes);
+    let filling = input.read(cores.filling())?;
+    input.check(filling == 0, Flaw::Spare, cores.filling())
 }
 
-// The header's fields in their order.
-pub(crate) fn read_fields(bytes: &[u8]) -> Result<Header, RecordFault>
-    ensures answer { told record_told result ≡ header_of bytes.now }
-    ensures room { IfOk result (λ h. (h.cores ≤ 8) × (header_length h.cores ≤ length bytes.now)) }
+// The header's fields in their order, and how many bytes they have.
+pub(crate) fn read_fields(bytes: &[u8]) -> Result<(Header, usize), RecordFault>
+    ensures answer { shown (λ p. p.0) (told record_told result) ≡ header_of bytes.now }
+    ensures room { IfOk result (λ p. (p.1 ≡ header_length p.0.cores) × (p.1 ≤ length bytes.now)) }
 {
     read_marks(bytes)?;
     let Setup {
@@ -180,11 +243,12 @@ pub(crate) fn read_fields(bytes: &[u8]) -> Result<Header, RecordFault>
     let start = read_start(bytes)?;
     let bounds = read_bounds(bytes, cores)?;
     read_filling(bytes, cores)?;
-    Ok(Header {
-        cores,
+    let header = Header {
+        cores: cores.count(),
         measure,
         policy,
         start,
         bounds,
-    })
+    };
+    Ok((header, cores.header_length()))
 }

@@ -1,5 +1,5 @@
 // The sample plan, and what is told of a plan's bytes.
-use fault::{Layer, PlanFault};
+use fault::{Layer, PlanFault, Spot};
 use plan::{PlanError, read_plan};
 use std::alloc::Global;
 use std::process::Abort;
@@ -34,74 +34,59 @@ pub const END: [u8; 8] = [0x60, 0, 0, 0, 0, 0, 0, 0];
 // The sample: that header, then those events.
 pub fn sample() -> [u8; 82] {
     let mut plan = [0; 82];
-    for i in 0..10 {
-        plan[i] = HEADER[i];
-    }
-    for i in 0..72 {
-        plan[10 + i] = EVENTS[i / 8][i % 8];
-    }
+    plan[..10].copy_from_slice(&HEADER);
+    plan[10..].copy_from_slice(EVENTS.as_flattened());
     plan
 }
 
-pub fn bits(byte: usize, number: usize) -> Option<Told> {
-    Some(Told {
+pub fn bits(byte: usize, number: usize) -> Told {
+    Told {
         cause: 31,
         layer: Layer::Bits,
         byte,
         number,
-    })
+    }
 }
 
-pub fn record(cause: u8, byte: usize, number: usize) -> Option<Told> {
-    Some(Told {
+pub fn record(cause: u8, byte: usize, number: usize) -> Told {
+    Told {
         cause,
         layer: Layer::Record,
         byte,
         number,
-    })
-}
-
-// A fault of a record, or none where the cause is 0.
-pub fn record_or_none(cause: u8, byte: usize, number: usize) -> Option<Told> {
-    if cause == 0 {
-        None
-    } else {
-        record(cause, byte, number)
     }
 }
 
-pub fn whole(cause: u8, byte: usize, number: usize) -> Option<Told> {
-    Some(Told {
+pub fn whole(cause: u8, byte: usize, number: usize) -> Told {
+    Told {
         cause,
         layer: Layer::Plan,
         byte,
         number,
-    })
+    }
 }
 
-pub fn told_of(fault: PlanFault) -> Told {
-    let at = fault.spot();
-    Told {
-        cause: fault.cause().number(),
-        layer: fault.layer(),
-        byte: at.byte,
-        number: at.number,
+impl From<PlanFault> for Told {
+    fn from(fault: PlanFault) -> Told {
+        let Spot { byte, number } = fault.spot();
+        Told {
+            cause: fault.cause().number(),
+            layer: fault.layer(),
+            byte,
+            number,
+        }
     }
 }
 
 // The plan has this fault, or none.
 pub fn expect(rt: &impl Abort, heap: Global, bytes: &[u8], want: Option<Told>) -> Result<(), Fail> {
-    match read_plan(heap, bytes) {
-        Ok(_) => {
-            assert_eq!(rt; None, want);
-            Ok(())
-        },
-        Err(PlanError::Fault(fault)) => {
-            assert_eq!(rt; Some(told_of(fault)), want);
-            Ok(())
-        },
-        Err(PlanError::Memory) => Err(Fail::new("no memory")),
-    }
+    let told = match read_plan(heap, bytes) {
+        Ok(_) => None,
+        Err(PlanError::Fault(fault)) => Some(Told::from(fault)),
+        Err(PlanError::Memory) => return Err(Fail::new("no memory")),
+    };
+    assert_eq!(rt; told, want);
+    Ok(())
 }
 
 // Flips bit i, counted from the most significant bit of the first byte.

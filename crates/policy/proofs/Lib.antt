@@ -1,1 +1,1 @@
-pub mod Downward
+pub mod Walk

@@ -1,4 +1,5 @@
 pub mod Choices
+pub mod Orders
 pub mod Laws
 pub mod Pins
 pub mod Chosen

@@ -1,8 +1,8 @@
 // First fit, worst fit and best fit; ties go to the lowest core.
-ghost use Rattle.std.specs.Prelude.{◌≡◌, ◌<◌, length, IfSome};
-ghost use Rattle.policy.specs.Choices.{beats, beaten, chosen, first_fit, worst_fit, best_fit};
+ghost use Rattle.std.specs.Prelude.{◌≡◌};
+ghost use Rattle.policy.specs.Choices.{prefers_none, prefers_more, prefers_less, first_fit, worst_fit, best_fit};
+ghost use Rattle.policy.specs.Orders.{Picks};
 ghost use Rattle.policy.specs.Pins.{LowestThatSuffices, MostRoom, LeastRoom};
-ghost use Rattle.policy.specs.declared.fits.Fit.TheVariants.{First, Worst, Best};
 ghost use Rattle.policy.specs.Chosen;
 
 use crate::Policy;
@@ -22,84 +22,52 @@ pub struct BestFit;
 impl Policy for FirstFit {
     ghost choice = { λ _. first_fit };
 
-    ghost lawful = { λ x. Chosen.lawful First };
+    ghost lawful = { λ _. Chosen.lawful prefers_none Chosen.none_order };
 
     fn choose(&self, rooms: &[u32], parts: u32) -> Option<usize>
         ensures answer { result ≡ first_fit rooms.now parts }
         ensures lowest { LowestThatSuffices rooms.now parts result }
     {
-        pick(Fit::First, rooms, parts)
+        pick(rooms, parts, |_, _| false)
     }
 }
 
 impl Policy for WorstFit {
     ghost choice = { λ _. worst_fit };
 
-    ghost lawful = { λ x. Chosen.lawful Worst };
+    ghost lawful = { λ _. Chosen.lawful prefers_more Chosen.more_order };
 
     fn choose(&self, rooms: &[u32], parts: u32) -> Option<usize>
         ensures answer { result ≡ worst_fit rooms.now parts }
         ensures most { MostRoom rooms.now result }
     {
-        pick(Fit::Worst, rooms, parts)
+        pick(rooms, parts, |room, other| room > other)
     }
 }
 
 impl Policy for BestFit {
     ghost choice = { λ _. best_fit };
 
-    ghost lawful = { λ x. Chosen.lawful Best };
+    ghost lawful = { λ _. Chosen.lawful prefers_less Chosen.less_order };
 
     fn choose(&self, rooms: &[u32], parts: u32) -> Option<usize>
         ensures answer { result ≡ best_fit rooms.now parts }
         ensures least { LeastRoom rooms.now parts result }
     {
-        pick(Fit::Best, rooms, parts)
+        pick(rooms, parts, |room, other| room < other)
     }
 }
 
-// What a fit prefers.
-#[derive(Clone, Copy)]
-enum Fit {
-    First,
-    Worst,
-    Best,
-}
-
-impl Fit {
-    // Whether this room is preferred to the other.
-    fn beats(self, room: u32, other: u32) -> bool
-        ensures { result ≡ beats self room other }
-    {
-        match self {
-            Fit::First => false,
-            Fit::Worst => room > other,
-            Fit::Best => room < other,
-        }
-    }
-}
-
-// Whether the room of the core named so far, if one is, is preferred to this room.
-fn beaten(fit: Fit, rooms: &[u32], named: Option<usize>, room: u32) -> bool
-    requires { IfSome named (λ core. core < length rooms.now) }
-    ensures { result ≡ beaten fit rooms.now named room }
-{
-    match named {
-        Some(core) => fit.beats(rooms[core], room),
-        None => false,
-    }
-}
-
-// The core that the fit names: from the highest down, so that a tie goes to the lowest.
-fn pick(fit: Fit, rooms: &[u32], parts: u32) -> Option<usize>
-    ensures { result ≡ chosen fit rooms.now parts }
+// The core that is preferred of those with room for the parts: `prefers` says whether a room is preferred to the other.
+fn pick<F: Fn(u32, u32) -> bool>(rooms: &[u32], parts: u32, prefers: F) -> Option<usize>
+    requires { F.IsAlwaysCallable prefers }
+    ensures { Picks (F.post prefers) rooms.now parts result }
 {
     let mut named = None;
-    for core in (0..rooms.len()).rev() {
-        let room = rooms[core];
-        if parts <= room && !beaten(fit, rooms, named, room) {
-            named = Some(core);
+    for (core, &room) in rooms.iter().enumerate() {
+        if parts <= room && named.is_none_or(|(_, other)| prefers(room, other)) {
+            named = Some((core, room));
         }
     }
-    named
+    named.map(|(core, _)| core)
 }

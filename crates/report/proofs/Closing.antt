@@ -1,53 +1,46 @@
--- Lines written one after another, and the closing lines of states that are the same.
-use Rattle.std.proofs.Common.{◌≡◌, ℕ, suc, ◌+◌, false, List, [], ◌∷◌, ◌++◌, map, vec_items, sym, refl, ap, ◌∙◌, append_assoc, append-nil, arith}
+-- The closing lines, written after others.
+use Rattle.std.proofs.Common.{◌≡◌, ℕ, Bool, true, false, List, [], ◌∷◌, ◌++◌, map, ap, ◌∙◌, append_assoc, append-nil}
+use Rattle.std.proofs.lemmas.List.{map-append}
+use Rattle.std.specs.List.{range_with_len}
+use mathlib.Core.List.{map-map}
+use Rattle.rules.specs.declared.types.Reservation.{Reservation}
 use Rattle.rules.specs.System.{System}
 use Rattle.rules.specs.Parts.{live_parts, departed_parts}
 use Rattle.ledger.proofs.Same.{same_departed}
 use Rattle.engine.specs.Shown.{Same}
 use Rattle.report.specs.declared.line.Line.{Line}
-use Rattle.report.specs.declared.notes.Notes.{Notes}
 use Rattle.report.specs.Lines.{line_text, core_text}
-use Rattle.report.specs.Reports.{core_lines}
-use Rattle.report.specs.Written.{text_of, Wrote}
-use Rattle.report.proofs.Told.{map_push}
+use Rattle.report.specs.Reports.{end_lines, core_lines, ran_line}
 
--- No line was written.
-pub wrote_none : (n : Notes) → Wrote n [] n
-wrote_none n whole = (whole, sym (append-nil (text_of n)))
+-- The line of core c of a state, and that of a live reservation.
+abbrev pub core_at : System → ℕ → Line
+core_at σ c = Line.Core c (live_parts c σ.live) (departed_parts σ.clock c σ.ledger)
 
--- One line was written.
-pub wrote_line : (n n' : Notes) (x : Line) (text : List ℕ) → line_text x ≡ text → (n'.failed ≡ false → (n.failed ≡ false) × (vec_items n'.lines ≡ vec_items n.lines ++ x ∷ [])) → Wrote n (text ∷ []) n'
-wrote_line n n' x text e noted whole =
-    let told = noted whole in
-    (told.0, ap (map line_text) told.1 ∙ map_push (vec_items n.lines) x ∙ ap (λ t. text_of n ++ t ∷ []) e)
+abbrev pub ran_at : Reservation → Line
+ran_at r = Line.Ran r.number r.ran
 
--- Lines were written after others.
-pub wrote_more : (n n₁ n₂ : Notes) (xs ys : List (List ℕ)) → Wrote n xs n₁ → Wrote n₁ ys n₂ → Wrote n (xs ++ ys) n₂
-wrote_more n n₁ n₂ xs ys first second whole =
-    let b = second whole in
-    let a = first b.0 in
-    (a.0, b.1 ∙ ap (λ t. t ++ ys) a.1 ∙ append_assoc (text_of n) xs ys)
+-- The end, where the run came to it.
+pub end_more : (b : Bool) (t : ℕ) (ls ks : List Line) → b ≡ true → ks ≡ ls ++ Line.End t ∷ [] → map line_text ks ≡ map line_text ls ++ end_lines b t
+end_more b t ls ks e k =
+    let m = map-append line_text ls (Line.End t ∷ []) in let a = ap (λ x. end_lines x t) e in cc
 
--- The line of core c of a state.
-abbrev pub core_at : System → ℕ → List ℕ
-core_at σ c = core_text c (live_parts c σ.live) (departed_parts σ.clock c σ.ledger)
+pub end_none : (b : Bool) (t : ℕ) (ls ks : List Line) → b ≡ false → ks ≡ ls → map line_text ks ≡ map line_text ls ++ end_lines b t
+end_none b t ls ks e k =
+    let m = append-nil (map line_text ls) in let a = ap (λ x. end_lines x t) e in cc
 
-core_push : (σ : System) (c n : ℕ) → core_lines σ c (suc n) ≡ core_lines σ c n ++ core_at σ (c + n) ∷ []
-core_push σ c ℕ.zero = let e : c ≡ c + 0 = omega arith in ap (λ k. core_at σ k ∷ []) e
-core_push σ c (suc n) =
-    let e : suc c + n ≡ c + suc n = omega arith in
-    ap (λ l. core_at σ c ∷ l) (core_push σ (suc c) n ∙ ap (λ k. core_lines σ (suc c) n ++ core_at σ k ∷ []) e)
-
--- One core more.
-pub core_more : (σ : System) (n : ℕ) → core_lines σ 0 (n + 1) ≡ core_lines σ 0 n ++ core_at σ n ∷ []
-core_more σ n =
-    let one : n + 1 ≡ suc n = omega arith in
-    let none : 0 + n ≡ n = omega arith in
-    ap (core_lines σ 0) one ∙ core_push σ 0 n ∙ ap (λ k. core_lines σ 0 n ++ core_at σ k ∷ []) none
+-- The end, the cores and the live reservations after the first lines.
+pub closing : (σ : System) (n : ℕ) (first ended : List Line) (end : List (List ℕ)) {with_cores all : List Line} → map line_text ended ≡ map line_text first ++ end → with_cores ≡ ended ++ map (core_at σ) (range_with_len 0 n) → all ≡ with_cores ++ map ran_at σ.live → map line_text all ≡ map line_text first ++ (end ++ (core_lines σ n ++ map ran_line σ.live))
+closing σ n first ended end {with_cores} {all} e c r =
+    let cores = map-append line_text ended (map (core_at σ) (range_with_len 0 n)) in
+    let live = map-append line_text with_cores (map ran_at σ.live) in
+    let m = map-map line_text (core_at σ) (range_with_len 0 n) in
+    let k = map-map line_text ran_at σ.live in
+    let x = append_assoc (map line_text first ++ end) (core_lines σ n) (map ran_line σ.live) in
+    let y = append_assoc (map line_text first) end (core_lines σ n ++ map ran_line σ.live) in
+    cc
 
 -- States that are the same have the same lines of cores.
-pub core_same : {σ τ : System} → Same σ τ → (c n : ℕ) → core_lines σ c n ≡ core_lines τ c n
-core_same {σ} {τ} h c ℕ.zero = refl
-core_same {σ} {τ} h c (suc n) =
-    let departed = same_departed σ.ledger τ.ledger h.ledger σ.clock c ∙ ap (λ t. departed_parts t c τ.ledger) h.clock in
-    λ i. core_text c (live_parts c (h.live i)) (departed i) ∷ core_same h (suc c) n i
+pub core_same : {σ τ : System} → Same σ τ → (n : ℕ) → core_lines σ n ≡ core_lines τ n
+core_same {σ} {τ} h n =
+    let departed = λ (c : ℕ). same_departed σ.ledger τ.ledger h.ledger σ.clock c ∙ ap (λ t. departed_parts t c τ.ledger) h.clock in
+    λ i. map (λ c. core_text c (live_parts c (h.live i)) (departed c i)) (range_with_len 0 n)

@@ -13,11 +13,10 @@ use Rattle.rules.specs.Replay.{state_after, is_accepted, next, after, replay}
 use Rattle.rules.proofs.Steps.{Step as Accepted, admits, wakes, rests, leaves, moves, deals, settles, by_step}
 use Rattle.rules.proofs.Counts.{after_append}
 use Rattle.engine.proofs.Rounds.{deal_end, deal_done, settle_done}
-use Rattle.engine.specs.declared.runs.Step.{Step}
 use Rattle.engine.specs.Driving.{before, stopped, round_on, rounds, own_call, course}
 use Rattle.plan.specs.declared.event.Kind.{Kind}
 use Rattle.plan.specs.Records.{Row}
-use Rattle.report.specs.Reports.{call_of, step_of, OfEvents}
+use Rattle.report.specs.Reports.{call_of, step_of}
 
 -- Neither a deal nor a settle.
 abbrev Plain : Call → Type 0
@@ -87,6 +86,5 @@ course_idle s σ (r ∷ rows) idle =
         ap (λ l. (after s σ l).out) (sym (append_assoc cs own ds)) ∙ ap (λ υ. υ.out) (after_append s σ (cs ++ own) ds) ∙ rest
     go false cs own ds ran rest = ap (λ l. (after s σ l).out) (append-nil cs) ∙ ran
 
-pub steps_idle : (s : Setup) (steps : List Step) → OfEvents steps → (replay s (course s (fresh s) steps).calls).out ≡ false
-steps_idle s steps events =
-    ap (λ xs. (replay s (course s (fresh s) xs).calls).out) events.1 ∙ course_idle s (fresh s) events.0 refl
+pub steps_idle : (s : Setup) (rows : List Row) → (replay s (course s (fresh s) (map step_of rows)).calls).out ≡ false
+steps_idle s rows = course_idle s (fresh s) rows refl

@@ -1,5 +1,6 @@
 -- The report of a plan: its fault alone, or what the rules answer to its events, and then its cores and its live reservations.
-use Rattle.std.specs.Prelude.{◌≡◌, ℕ, suc, min, Bool, true, false, cond, List, [], ◌∷◌, ◌++◌, map, length, take, Some, None, Ok, Err, Option, Result}
+use Rattle.std.specs.Prelude.{ℕ, min, Bool, true, false, cond, List, [], ◌∷◌, ◌++◌, map, length, take, Some, None, Ok, Err, Option, Result}
+use Rattle.std.specs.List.{flat_map, range_with_len}
 use Rattle.terms.specs.declared.refusals.Refusal.{Refusal}
 use Rattle.measure.specs.Meanings.{rounded_whole, rounded, catalogue_whole, catalogue}
 use Rattle.policy.specs.Choices.{first_fit, worst_fit, best_fit}
@@ -79,19 +80,20 @@ told_line (dealt names) = []
 
 -- The lines of what was told.
 abbrev pub told_lines : List Told → List (List ℕ)
-told_lines [] = []
-told_lines (x ∷ xs) = told_line x ++ told_lines xs
+told_lines xs = flat_map told_line xs
 
 -- The end record has its line where no deal was refused before.
 abbrev pub end_lines : Bool → ℕ → List (List ℕ)
 end_lines true t = end_text t ∷ []
 end_lines false t = []
 
--- The lines of n cores from core c on.
-abbrev pub core_lines : System → ℕ → ℕ → List (List ℕ)
-core_lines σ c ℕ.zero = []
-core_lines σ c (suc n) =
-    core_text c (live_parts c σ.live) (departed_parts σ.clock c σ.ledger) ∷ core_lines σ (suc c) n
+-- The line of core c.
+abbrev pub core_line : System → ℕ → List ℕ
+core_line σ c = core_text c (live_parts c σ.live) (departed_parts σ.clock c σ.ledger)
+
+-- The lines of n cores.
+abbrev pub core_lines : System → ℕ → List (List ℕ)
+core_lines σ n = map (core_line σ) (range_with_len 0 n)
 
 -- The line of a live reservation.
 abbrev pub ran_line : Reservation → List ℕ
@@ -100,7 +102,7 @@ ran_line r = ran_text r.number r.ran
 -- The lines of a course of calls: what was told, the end, the cores, the live reservations.
 abbrev pub course_lines : Setup → Course → List (List ℕ)
 course_lines s c =
-    told_lines (heard s (fresh s) c.calls) ++ (end_lines c.complete (replay s c.calls).clock ++ (core_lines (replay s c.calls) 0 (length s.figures) ++ map ran_line (replay s c.calls).live))
+    told_lines (heard s (fresh s) c.calls) ++ (end_lines c.complete (replay s c.calls).clock ++ (core_lines (replay s c.calls) (length s.figures) ++ map ran_line (replay s c.calls).live))
 
 -- The lines of an engine's steps; a making that is refused has none, which the limits of a header rule out.
 abbrev pub made_lines : Option Refusal → Setup → List Step → List (List ℕ)
@@ -116,10 +118,6 @@ header_lines whole price choice h steps =
 abbrev pub content_lines : Contents → List (List ℕ)
 content_lines c =
     header_lines (whole_of c.header.measure) (price_of c.header.measure) (choice_of c.header.policy) c.header (map step_of c.events)
-
--- The steps are those of a plan's events.
-abbrev pub OfEvents : List Step → Type 0
-OfEvents steps = (rows : List Row) × (steps ≡ map step_of rows)
 
 -- The report of a plan: the fault's line alone, or the lines of its contents.
 abbrev pub lines_of : Result Contents Fault → List (List ℕ)

@@ -1,17 +1,16 @@
 // The lines of a report, in their order.
-ghost use Rattle.std.specs.Prelude.{◌≡◌, ◌<◌, ◌≤◌, false, ◌++◌, map, length, IfOk, slice_index_or};
-ghost use Rattle.rules.specs.declared.types.Reservation.{Reservation};
+ghost use Rattle.std.specs.Prelude.{◌≡◌, ◌<◌, ◌≤◌, ◌++◌, map, length, IfOk};
 ghost use Rattle.rules.specs.Parts.{live_parts, departed_parts};
 ghost use Rattle.engine.specs.Engines.{setup, shown};
 ghost use Rattle.plan.specs.Plans.{contents_of};
-ghost use Rattle.report.specs.Lines.{line_text, core_text};
-ghost use Rattle.report.specs.Reports.{choice_of, end_lines, core_lines, ran_line, header_lines, content_lines, report_of, OfEvents};
-ghost use Rattle.report.specs.Written.{text_of, Wrote};
+ghost use Rattle.report.specs.declared.line.Line.TheVariants.{Core};
+ghost use Rattle.report.specs.Lines.{line_text};
+ghost use Rattle.report.specs.Reports.{choice_of, end_lines, core_lines, ran_line, header_lines, content_lines, report_of, step_of};
 
 use crate::line::Line;
 use crate::notes::Notes;
 use crate::steps::{figures_of, steps_of};
-use engine::{Engine, Finish, Step, Unmade, run};
+use engine::{Engine, Finish, Unmade, run};
 use measure::{Catalogue, Measure, Rounded};
 use plan::{Header, MeasureKind, Plan, PlanError, PolicyKind, read_plan};
 use policy::{BestFit, FirstFit, Policy, WorstFit};
@@ -20,16 +19,10 @@ use std::alloc::{AllocError, Global};
 // The line of a core that there is.
 fn core_line<M: Measure, P: Policy>(engine: &Engine<M, P>, core: u32) -> Line
     requires { core < length (setup M.Measure.whole M.Measure.price P.Policy.choice engine.now).figures }
-    ensures { line_text result ≡ core_text core (live_parts core (shown engine.now).live) (departed_parts (shown engine.now).clock core (shown engine.now).ledger) }
+    ensures { result ≡ Core core (live_parts core (shown engine.now).live) (departed_parts (shown engine.now).clock core (shown engine.now).ledger) }
 {
-    let live = match engine.live_parts(core) {
-        Ok(parts) => parts,
-        Err(_) => unreachable(),
-    };
-    let departed = match engine.departed_parts(core) {
-        Ok(parts) => parts,
-        Err(_) => unreachable(),
-    };
+    let live = engine.live_parts(core).unwrap();
+    let departed = engine.departed_parts(core).unwrap();
     Line::Core {
         core,
         live,
@@ -37,65 +30,26 @@ fn core_line<M: Measure, P: Policy>(engine: &Engine<M, P>, core: u32) -> Line
     }
 }
 
-// A line for each core.
-fn write_cores<M: Measure, P: Policy>(notes: &mut Notes, engine: &Engine<M, P>)
-    requires { length (setup M.Measure.whole M.Measure.price P.Policy.choice engine.now).figures ≤ 8 }
-    ensures { Wrote notes.old (core_lines (shown engine.now) 0 (length (setup M.Measure.whole M.Measure.price P.Policy.choice engine.now).figures)) notes.new }
-{
-    let cores = engine.cores() as u32;
-    for core in 0..cores {
-        notes.note(core_line(engine, core));
-    }
-}
-
-// The line of the live reservation at this place.
-fn reservation_line<M: Measure, P: Policy>(engine: &Engine<M, P>, place: usize) -> Line
-    requires { place < length (shown engine.now).live }
-    ensures { (d : Reservation) → line_text result ≡ ran_line (slice_index_or (shown engine.now).live place d) }
-{
-    match engine.live_at(place) {
-        Some(row) => Line::Ran {
-            number: row.number,
-            ticks: row.ran,
-        },
-        None => unreachable(),
-    }
-}
-
-// A line for each live reservation, by number.
-fn write_reservations<M: Measure, P: Policy>(notes: &mut Notes, engine: &Engine<M, P>)
-    ensures { Wrote notes.old (map ran_line (shown engine.now).live) notes.new }
-{
-    for place in 0..engine.live_count() {
-        notes.note(reservation_line(engine, place));
-    }
-}
-
-// The end record's line, where the run came to it.
-fn write_end(notes: &mut Notes, complete: bool, tick: u32)
-    ensures { Wrote notes.old (end_lines complete tick) notes.new }
-{
-    if complete {
-        notes.note(Line::End { tick });
-    }
-}
-
-// The lines after those of the run: the end, the cores, the live reservations.
+// The lines after those of the run: the end where the run came to it, the cores, the live reservations by number.
 fn close<M: Measure, P: Policy>(
-    mut notes: Notes,
+    mut lines: Vec<Line>,
     engine: &Engine<M, P>,
     complete: bool,
 ) -> Result<Vec<Line>, AllocError>
-    requires { length (setup M.Measure.whole M.Measure.price P.Policy.choice engine.now).figures ≤ 8 }
-    ensures { IfOk result (λ v. (notes.failed ≡ false) × (map line_text v.items ≡ text_of notes ++ (end_lines complete (shown engine.now).clock ++ (core_lines (shown engine.now) 0 (length (setup M.Measure.whole M.Measure.price P.Policy.choice engine.now).figures) ++ map ran_line (shown engine.now).live)))) }
+    ensures { IfOk result (λ v. map line_text v.items ≡ map line_text lines.items ++ (end_lines complete (shown engine.now).clock ++ (core_lines (shown engine.now) (length (setup M.Measure.whole M.Measure.price P.Policy.choice engine.now).figures) ++ map ran_line (shown engine.now).live))) }
 {
-    write_end(&mut notes, complete, engine.clock());
-    write_cores(&mut notes, engine);
-    write_reservations(&mut notes, engine);
-    let Notes { lines, failed } = notes;
-    if failed {
-        return Err(AllocError);
+    if complete {
+        let tick = engine.clock();
+        lines.push(Line::End { tick })?;
     }
+    let cores = engine.cores() as u32;
+    lines.extend((0..cores).map(|core| core_line(engine, core)))?;
+    lines.extend(
+        engine.live().iter().map(|row| Line::Ran {
+            number: row.number,
+            ticks: row.ran,
+        }),
+    )?;
     Ok(lines)
 }
 
@@ -104,21 +58,19 @@ fn play<M: Measure + Drop, P: Policy + Drop>(
     heap: Global,
     measure: M,
     policy: P,
-    header: &Header,
-    steps: &[Step],
+    plan: &Plan,
 ) -> Result<Vec<Line>, AllocError>
-    requires { OfEvents steps.now }
-    ensures { IfOk result (λ v. map line_text v.items ≡ header_lines (M.Measure.whole measure) (M.Measure.price measure) (P.Policy.choice policy) header.now steps.now) }
+    ensures { IfOk result (λ v. map line_text v.items ≡ header_lines (M.Measure.whole measure) (M.Measure.price measure) (P.Policy.choice policy) plan.now.header (map step_of (contents_of plan.now).events)) }
 {
-    let bounds = header.core_bounds();
-    let figures = figures_of(bounds);
+    let figures = figures_of(heap, &plan.header)?;
+    let steps = steps_of(heap, &plan.events)?;
     let mut notes = Notes::new(heap);
     match run(
         measure,
         policy,
-        &figures[0..bounds.len()],
-        header.start,
-        steps,
+        &figures,
+        plan.header.start,
+        &steps,
         &mut notes,
     ) {
         Ok(
@@ -129,20 +81,16 @@ fn play<M: Measure + Drop, P: Policy + Drop>(
             },
         ) => {
             // A plan's steps leave no round out.
-            match round {
-                None => {}
-                Some(_) => unreachable(),
-            }
-            close(notes, &engine, complete)
+            let None = round else { unreachable() };
+            close(notes.lines?, &engine, complete)
         }
-        Err(unmade) => {
-            let Unmade {
+        Err(
+            Unmade {
                 refusal: _,
                 measure: _,
                 policy: _,
-            } = unmade;
-            Ok(Vec::new(heap))
-        }
+            },
+        ) => Ok(Vec::new(heap)),
     }
 }
 
@@ -150,16 +98,14 @@ fn play<M: Measure + Drop, P: Policy + Drop>(
 fn play_policy<M: Measure + Drop>(
     heap: Global,
     measure: M,
-    header: &Header,
-    steps: &[Step],
+    plan: &Plan,
 ) -> Result<Vec<Line>, AllocError>
-    requires { OfEvents steps.now }
-    ensures { IfOk result (λ v. map line_text v.items ≡ header_lines (M.Measure.whole measure) (M.Measure.price measure) (choice_of header.now.policy) header.now steps.now) }
+    ensures { IfOk result (λ v. map line_text v.items ≡ header_lines (M.Measure.whole measure) (M.Measure.price measure) (choice_of plan.now.header.policy) plan.now.header (map step_of (contents_of plan.now).events)) }
 {
-    match header.policy {
-        PolicyKind::First => play(heap, measure, FirstFit, header, steps),
-        PolicyKind::Worst => play(heap, measure, WorstFit, header, steps),
-        PolicyKind::Best => play(heap, measure, BestFit, header, steps),
+    match plan.header.policy {
+        PolicyKind::First => play(heap, measure, FirstFit, plan),
+        PolicyKind::Worst => play(heap, measure, WorstFit, plan),
+        PolicyKind::Best => play(heap, measure, BestFit, plan),
     }
 }
 
@@ -167,10 +113,9 @@ fn play_policy<M: Measure + Drop>(
 fn play_plan(heap: Global, plan: &Plan) -> Result<Vec<Line>, AllocError>
     ensures { IfOk result (λ v. map line_text v.items ≡ content_lines (contents_of plan.now)) }
 {
-    let steps = steps_of(heap, plan.events.as_slice())?;
     match plan.header.measure {
-        MeasureKind::Rounded => play_policy(heap, Rounded, &plan.header, steps.as_slice()),
-        MeasureKind::Catalogue => play_policy(heap, Catalogue, &plan.header, steps.as_slice()),
+        MeasureKind::Rounded => play_policy(heap, Rounded, plan),
+        MeasureKind::Catalogue => play_policy(heap, Catalogue, plan),
     }
 }
 

@@ -1,5 +1,5 @@
 // The observer that keeps the lines of a run.
-ghost use Rattle.std.specs.Prelude.{◌≡◌, false, List, [], ◌∷◌, ◌++◌, map};
+ghost use Rattle.std.specs.Prelude.{◌≡◌, List, [], ◌∷◌, ◌++◌, map, IfOk, IsOkAnd};
 ghost use Rattle.rules.specs.Replay.{Told};
 ghost use Rattle.report.specs.Lines.{line_text};
 ghost use Rattle.report.specs.Reports.{is_refused, is_printed, told_lines};
@@ -7,32 +7,31 @@ ghost use Rattle.report.specs.Reports.{is_refused, is_printed, told_lines};
 use crate::line::Line;
 use engine::Observer;
 use rules::{Answer, Call};
-use std::alloc::Global;
+use std::alloc::{AllocError, Global};
 
-// The lines so far; where memory failed they are not all there.
+// The lines so far, or that memory failed.
 #[derive(Drop)]
 pub struct Notes {
-    pub lines: Vec<Line>,
-    pub failed: bool,
+    pub lines: Result<Vec<Line>, AllocError>,
 }
 
 impl Notes {
     pub fn new(heap: Global) -> Notes
-        ensures lines { result.lines.items ≡ [] }
-        ensures whole { result.failed ≡ false }
+        ensures { IsOkAnd result.lines (λ v. v.items ≡ []) }
     {
         Notes {
-            lines: Vec::new(heap),
-            failed: false,
+            lines: Ok(Vec::new(heap)),
         }
     }
 
-    // One line more, unless memory fails.
-    pub fn note(&mut self, line: Line)
-        ensures { self.new.failed ≡ false → (self.old.failed ≡ false) × (self.new.lines.items ≡ self.old.lines.items ++ line ∷ []) }
+    // One line more, unless memory fails or has failed before.
+    fn note(&mut self, line: Line)
+        ensures { IfOk self.new.lines (λ v. IsOkAnd self.old.lines (λ u. v.items ≡ u.items ++ line ∷ [])) }
     {
-        if self.lines.push(line).is_err() {
-            self.failed = true;
+        if let Ok(lines) = &mut self.lines
+            && lines.push(line).is_err()
+        {
+            self.lines = Err(AllocError);
         }
     }
 }
@@ -55,7 +54,7 @@ fn is_printed(call: Call, answer: Answer) -> bool
 }
 
 impl Observer for Notes {
-    ghost shows = { λ o l. o.failed ≡ false → map line_text o.lines.items ≡ told_lines l };
+    ghost shows = { λ o l. IfOk o.lines (λ v. map line_text v.items ≡ told_lines l) };
 
     fn said(&mut self, tick: u32, call: Call, answer: Answer) {
         if is_printed(call, answer) {

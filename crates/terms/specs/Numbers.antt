@@ -1,5 +1,5 @@
--- The numbers of the refusals. Words: number.
-use Rattle.std.specs.Prelude.{ℕ}
+-- The numbers of the refusals. Words: number, TellsApart.
+use Rattle.std.specs.Prelude.{◌≡◌, ℕ}
 use Rattle.terms.specs.declared.refusals.Refusal.{Refusal}
 use Rattle.terms.specs.declared.refusals.Refusal.TheVariants.{
   Cores,
@@ -44,3 +44,7 @@ number SameCore = 20
 number Behind = 21
 number LedgerFull = 22
 number CalendarFull = 23
+
+-- No other refusal answers this number.
+abbrev pub TellsApart : Refusal → ℕ → Type 0
+TellsApart refusal n = (other : Refusal) → number other ≡ n → other ≡ refusal

@@ -1,13 +1,10 @@
 // The refusals, and the number that each answers.
-ghost use Rattle.std.specs.Prelude.{◌≡◌, Some, decimal, ◌==◌};
-ghost use Rattle.terms.specs.Numbers.{number};
-ghost use Rattle.std.specs.Cmp.Rules.{comparing};
-ghost use Rattle.std.proofs.Common.{rules};
-ghost use Rattle.std.specs.Cmp as Keys;
+ghost use Rattle.std.specs.Prelude.{◌≡◌, Some, decimal};
+ghost use Rattle.terms.specs.Numbers.{number, TellsApart};
 
 use std::fmt;
 
-#[derive(Clone, Copy, Eq, Debug)]
+#[derive(Clone, Copy, PartialEq, Eq, Debug)]
 pub enum Refusal {
     // Cores not 1 to 8.
     Cores = 1,
@@ -51,20 +48,10 @@ pub enum Refusal {
 
 impl Refusal {
     pub fn number(self) -> u32
-        ensures { result ≡ number self }
+        ensures answer { result ≡ number self }
+        ensures tells { TellsApart self result }
     {
         self as u32
-    }
-}
-
-// Two refusals are the same where their numbers are.
-impl PartialEq for Refusal {
-    ghost eq = { λ x y. (number x == number y) };
-
-    ghost laws = { Keys.partial_equiv_from_equiv (Prim.search (comparing, rules)) };
-
-    fn eq(&self, other: &Refusal) -> bool {
-        self.number() == other.number()
     }
 }
 

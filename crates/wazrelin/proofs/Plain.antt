@@ -1,5 +1,5 @@
 -- The text of a report is ASCII, so that UTF-8 leaves it as it is.
-use Rattle.std.proofs.Common.{◌≡◌, ℕ, zero, suc, ◌/◌, ◌%◌, ◌<◌, true, false, cond, eqb, List, [], ◌∷◌, ◌++◌, map, codes, decimal, sym, refl, ap, ◌∙◌, append_assoc, mod-lt, arith, lit<}
+use Rattle.std.proofs.Common.{◌≡◌, ℕ, zero, suc, ◌/◌, ◌%◌, ◌<◌, true, false, cond, eqb, List, [], ◌∷◌, ◌++◌, map, codes, decimal, refl, mod-lt, arith, lit<}
 use Prim.Native.String.{String}
 use lib.Utf8.{encode, encodes}
 use Rattle.std.proofs.lemmas.Str.{encodes-append, encode_ascii}
@@ -98,10 +98,5 @@ plain_line (Line.Ran n ticks) = after "res " refl (figure n (after " ran " refl 
 -- The text of lines that are printed.
 pub plain_text : (lines : List Line) → Plain (text_of (map line_text lines))
 plain_text [] = record { same = refl }
-plain_text (l ∷ ls) = plain_append (plain_line l) (plain_cons 10 (lit< tt) (plain_text ls))
-
--- One line more.
-pub text_more : (texts : List (List ℕ)) (t : List ℕ) → text_of (texts ++ (t ∷ [])) ≡ text_of texts ++ (t ++ (10 ∷ []))
-text_more [] t = refl
-text_more (x ∷ xs) t =
-    ap (λ ts. x ++ (10 ∷ ts)) (text_more xs t) ∙ sym (append_assoc x (10 ∷ text_of xs) (t ++ (10 ∷ [])))
+plain_text (l ∷ ls) =
+    plain_append (plain_append (plain_line l) (plain_cons 10 (lit< tt) (record { same = refl }))) (plain_text ls)

@@ -14,7 +14,7 @@ enum Status {
     NoMemory,
 }
 
-// What a call says: how many bytes the report has, and the number of its status.
+// What a call says: how many bytes the report has, and the number of its status, since C takes a struct of numbers.
 #[repr(C)]
 #[derive(Clone, Copy, PartialEq, Eq, Debug)]
 pub struct Written {

@@ -13,9 +13,7 @@ fn text_of(heap: Global, lines: &[Line]) -> Result<String, AllocError>
 {
     let mut text = String::new(heap);
     for line in lines {
-        if writeln!(text, "{line}").is_err() {
-            return Err(AllocError);
-        }
+        writeln!(text, "{line}")?;
     }
     Ok(text)
 }

@@ -8,10 +8,10 @@ ghost use Rattle.engine.specs.Engines.{setup, shown, Making};
 
 use super::Engine;
 use crate::answers::{Awake, Departure, Placement, Round, Unmade, Unsettled};
-use crate::inner::Inner;
+use crate::inner::{Inner, Whole};
 use measure::Measure;
 use policy::Policy;
-use rules::making_refusal;
+use rules::check_making;
 use terms::{Refusal, Terms};
 
 impl<M: Measure, P: Policy> Engine<M, P> {
@@ -24,13 +24,14 @@ impl<M: Measure, P: Policy> Engine<M, P> {
     ) -> Result<Engine<M, P>, Unmade<M, P>>
         ensures { Making (setup_of (M.Measure.whole measure) (M.Measure.price measure) (P.Policy.choice policy) figures.now start) measure policy result }
     {
-        match making_refusal(&measure, &policy, figures, start) {
-            Some(refusal) => Err(Unmade {
+        // The refusal takes the measure and the policy with it, so it is made here and not by a closure.
+        match check_making(&measure, &policy, figures, start) {
+            Err(refusal) => Err(Unmade {
                 refusal,
                 measure,
                 policy,
             }),
-            None => Ok(Engine {
+            Ok(()) => Ok(Engine {
                 measure,
                 policy,
                 inner: Inner::new(figures, start),
@@ -44,20 +45,11 @@ impl<M: Measure, P: Policy> Engine<M, P> {
         ensures made { setup M.Measure.whole M.Measure.price P.Policy.choice self.new ≡ setup M.Measure.whole M.Measure.price P.Policy.choice self.old }
         ensures kept { is_err result ≡ true → self.new ≡ self.old }
     {
-        let terms = match Terms::new(budget, period) {
-            Ok(terms) => terms,
-            Err(refusal) => return Err(refusal),
-        };
-        let Some(parts) = self.measure.parts(terms) else {
-            return Err(Refusal::NotTaken);
-        };
-        if let Some(refusal) = self.inner.closed() {
-            return Err(refusal);
-        }
-        let rooms = self.inner.rooms(self.measure.whole());
-        let Some(core) = self.policy.choose(&rooms[0..self.inner.cores()], parts) else {
-            return Err(Refusal::NoRoom);
-        };
+        let terms = Terms::new(budget, period)?;
+        let parts = self.measure.parts(terms).ok_or(Refusal::NotTaken)?;
+        self.inner.check_open()?;
+        let rooms = self.inner.rooms(Whole::of(&self.measure));
+        let core = self.policy.choose(&rooms, parts).ok_or(Refusal::NoRoom)?;
         Ok(self.inner.place(terms, parts, core as u32))
     }
 
@@ -94,8 +86,7 @@ impl<M: Measure, P: Policy> Engine<M, P> {
         ensures made { setup M.Measure.whole M.Measure.price P.Policy.choice self.new ≡ setup M.Measure.whole M.Measure.price P.Policy.choice self.old }
         ensures kept { is_err result ≡ true → self.new ≡ self.old }
     {
-        let whole = self.measure.whole();
-        self.inner.migrate(number, core, whole)
+        self.inner.migrate(number, core, Whole::of(&self.measure))
     }
 
     // Deals a round: each core to the ready reservation on it with the earliest deadline.

@@ -6,6 +6,7 @@ ghost use Rattle.engine.specs.Engines.{setup, shown};
 ghost use Rattle.engine.specs.Names.{eight_names};
 
 use super::Engine;
+use crate::inner::Whole;
 use measure::Measure;
 use policy::Policy;
 use rules::Reservation;
@@ -30,7 +31,7 @@ impl<M: Measure, P: Policy> Engine<M, P> {
     pub fn bound(&self, core: u32) -> Result<u32, Refusal>
         ensures { result ≡ bound_of (setup M.Measure.whole M.Measure.price P.Policy.choice self.now) core }
     {
-        self.inner.bound_of(core, self.measure.whole())
+        self.inner.bound_of(core, Whole::of(&self.measure))
     }
 
     // The parts of a core's live reservations.

@@ -1,39 +1,41 @@
 // The calls on the engine's figures that ask neither measure nor policy. A refusal leaves the figures as they were.
-ghost use Rattle.std.specs.Prelude.{◌≡◌, true, false, is_err};
+ghost use Rattle.std.specs.Prelude.{◌≡◌, true, false, is_err, MatchResult};
+ghost use Rattle.terms.specs.declared.refusals.Refusal.TheVariants.{RoundOut};
 ghost use Rattle.rules.specs.Calls.{wake, rest, leave, settle, deal};
 ghost use Rattle.engine.specs.Answers.{awake, left, departed, dealt, settled, RoundBack};
 ghost use Rattle.engine.specs.View.{view, bare, Follows, Departs};
 
 use super::Inner;
-use super::making::NO_PICKS;
 use crate::answers::{Awake, Departure, Round, Unsettled};
-use rules::{Entry, Reservation};
+use rules::{Entry, LAST_TICK, Reservation};
 use table::lapse;
 use terms::Refusal;
 
-const LAST_TICK: u32 = 4_000_000_000;
-
 impl Inner {
+    // No round is out.
+    pub fn check_settled(&self) -> Result<(), Refusal>
+        ensures { MatchResult result (λ _. (view self.now).out ≡ false) (λ e. ((view self.now).out ≡ true) × (e ≡ RoundOut)) }
+    {
+        if self.round.is_some() {
+            return Err(Refusal::RoundOut);
+        }
+        Ok(())
+    }
+
     pub fn wake(&mut self, number: u32) -> Result<Awake, Refusal>
         ensures next { Follows self.old (wake (view self.old) number) (awake result) self.new }
         ensures kept { is_err result ≡ true → self.new ≡ self.old }
     {
-        if self.out {
-            return Err(Refusal::RoundOut);
-        }
-        match self.table.wake(number) {
-            Ok((state, deadline)) => Ok(Awake { state, deadline }),
-            Err(refusal) => Err(refusal),
-        }
+        self.check_settled()?;
+        let (state, deadline) = self.table.wake(number)?;
+        Ok(Awake { state, deadline })
     }
 
     pub fn rest(&mut self, number: u32) -> Result<u32, Refusal>
         ensures next { Follows self.old (rest (view self.old) number) (left result) self.new }
         ensures kept { is_err result ≡ true → self.new ≡ self.old }
     {
-        if self.out {
-            return Err(Refusal::RoundOut);
-        }
+        self.check_settled()?;
         self.table.rest(number)
     }
 
@@ -41,16 +43,9 @@ impl Inner {
         ensures next { Follows self.old (leave (view self.old) number) (departed result) self.new }
         ensures kept { is_err result ≡ true → self.new ≡ self.old }
     {
-        if self.out {
-            return Err(Refusal::RoundOut);
-        }
-        let Some(row) = self.table.find(number) else {
-            return Err(Refusal::NoReservation);
-        };
-        let departure = match self.depart(row) {
-            Ok(departure) => departure,
-            Err(refusal) => return Err(refusal),
-        };
+        self.check_settled()?;
+        let row = self.reservation(number)?;
+        let departure = self.depart(row)?;
         let _ = self.table.remove(number);
         Ok(departure)
     }
@@ -62,33 +57,27 @@ impl Inner {
     {
         let tick = lapse(&row);
         if tick <= self.table.clock() {
-            return Ok(Departure::Free);
+            return Ok(Departure { until: None });
         }
-        let entry = Entry {
+        self.ledger.write(Entry {
             lapse: tick,
             number: row.number,
             core: row.core,
             parts: row.parts,
-        };
-        match self.ledger.write(entry) {
-            Ok(()) => Ok(Departure::Until(tick)),
-            Err(refusal) => Err(refusal),
-        }
+        })?;
+        Ok(Departure { until: Some(tick) })
     }
 
     pub fn deal(&mut self) -> Result<Round, Refusal>
         ensures next { Follows self.old (deal (bare 0 self.old) (view self.old)) (dealt result) self.new }
         ensures kept { is_err result ≡ true → self.new ≡ self.old }
     {
-        if self.out {
-            return Err(Refusal::RoundOut);
-        }
+        self.check_settled()?;
         let tick = self.table.clock();
         if tick == LAST_TICK {
             return Err(Refusal::ClockEnd);
         }
-        self.picks = self.table.picks(self.cores);
-        self.out = true;
+        self.round = Some(self.table.picks(self.figures.len()));
         Ok(Round { tick })
     }
 
@@ -97,21 +86,19 @@ impl Inner {
         ensures kept { is_err result ≡ true → self.new ≡ self.old }
         ensures back { RoundBack round result }
     {
-        if !self.out || round.tick != self.table.clock() {
-            return Err(Unsettled {
+        match &self.round {
+            Some(picks) if round.tick == self.table.clock() => {
+                let Round { tick: _ } = round;
+                // A round is dealt only before the last tick.
+                let clock = self.table.tick(picks).unwrap();
+                self.ledger.purge(clock);
+                self.round = None;
+                Ok(clock)
+            }
+            _ => Err(Unsettled {
                 refusal: Refusal::WrongRound,
                 round,
-            });
+            }),
         }
-        let Round { tick: _ } = round;
-        let clock = match self.table.tick(&self.picks) {
-            Ok(clock) => clock,
-            // A round is dealt only before the last tick.
-            Err(_) => unreachable(),
-        };
-        self.ledger.purge(clock);
-        self.out = false;
-        self.picks = NO_PICKS;
-        Ok(clock)
     }
 }

@@ -1,33 +1,30 @@
 // The calls on the engine's figures that place a reservation on a core. The whole is the measure's.
-ghost use Rattle.std.specs.Prelude.{◌≡◌, ◌<◌, ◌≤◌, true, length, take, is_err, None};
+ghost use Rattle.std.specs.Prelude.{◌≡◌, ◌<◌, ◌≤◌, true, length, is_err, None, Some, MatchResult};
 ghost use Rattle.rules.specs.Calls.{move, admitted, with_newcomer};
 ghost use Rattle.rules.specs.Parts.{bound, room, rooms};
 ghost use Rattle.engine.specs.Answers.{departed};
 ghost use Rattle.engine.specs.View.{view, figures_of, bare, closed_by, Follows};
 
-use super::Inner;
+use super::{Inner, Whole};
 use crate::answers::{Departure, Placement};
+use arrayvec::ArrayVec;
+use rules::{LAST_NUMBER, LIVE_LIMIT, MOST_CORES};
 use table::is_behind;
 use terms::{Refusal, Terms};
 
-const LIVE_LIMIT: usize = 64;
-
-const LAST_NUMBER: u32 = 65_535;
-
 impl Inner {
-    // What refuses every newcomer.
-    pub fn closed(&self) -> Option<Refusal>
-        ensures { result ≡ closed_by (view self.now) }
+    // Nothing refuses every newcomer.
+    pub fn check_open(&self) -> Result<(), Refusal>
+        ensures { MatchResult result (λ _. closed_by (view self.now) ≡ None) (λ e. closed_by (view self.now) ≡ Some e) }
     {
-        if self.out {
-            Some(Refusal::RoundOut)
-        } else if self.table.len() >= LIVE_LIMIT {
-            Some(Refusal::TooMany)
-        } else if self.given >= LAST_NUMBER {
-            Some(Refusal::NumbersGone)
-        } else {
-            None
+        self.check_settled()?;
+        if self.table.len() >= LIVE_LIMIT {
+            return Err(Refusal::TooMany);
         }
+        if self.given >= LAST_NUMBER {
+            return Err(Refusal::NumbersGone);
+        }
+        Ok(())
     }
 
     // Admits a reservation of these parts on the core.
@@ -44,54 +41,43 @@ impl Inner {
         Placement { number, core }
     }
 
-    pub fn migrate(&mut self, number: u32, core: u32, whole: u32) -> Result<Departure, Refusal>
-        requires { whole ≤ 4000000 }
-        ensures next { Follows self.old (move (bare whole self.old) (view self.old) number core) (departed result) self.new }
+    pub fn migrate(&mut self, number: u32, core: u32, whole: Whole) -> Result<Departure, Refusal>
+        ensures next { Follows self.old (move (bare whole.parts self.old) (view self.old) number core) (departed result) self.new }
         ensures kept { is_err result ≡ true → self.new ≡ self.old }
     {
-        if core as usize >= self.cores {
-            return Err(Refusal::NoCore);
-        }
-        if self.out {
-            return Err(Refusal::RoundOut);
-        }
-        let Some(row) = self.table.find(number) else {
-            return Err(Refusal::NoReservation);
-        };
+        let place = self.core(core)?;
+        self.check_settled()?;
+        let row = self.reservation(number)?;
         if row.core == core {
             return Err(Refusal::SameCore);
         }
         if is_behind(&row, self.table.clock()) {
             return Err(Refusal::Behind);
         }
-        if self.room(core as usize, whole) < row.parts {
+        if self.room(place, whole) < row.parts {
             return Err(Refusal::NoRoom);
         }
-        let departure = match self.depart(row) {
-            Ok(departure) => departure,
-            Err(refusal) => return Err(refusal),
-        };
+        let departure = self.depart(row)?;
         let _ = self.table.transfer(number, core);
         Ok(departure)
     }
 
-    // The rooms of the cores; those past the last have none.
-    pub fn rooms(&self, whole: u32) -> [u32; 8]
-        requires { whole ≤ 4000000 }
-        ensures rooms { take self.now.cores result ≡ rooms (bare whole self.now) (view self.now) }
-        ensures sized { length result ≡ 8 }
+    // The rooms of the cores.
+    pub fn rooms(&self, whole: Whole) -> ArrayVec<u32, MOST_CORES>
+        ensures { result.items ≡ rooms (bare whole.parts self.now) (view self.now) }
     {
-        let mut rooms = [0; 8];
-        for core in 0..self.cores {
-            rooms[core] = self.room(core, whole);
+        // Pushed one by one, since to collect or to extend may fail, and these never do.
+        let mut rooms = ArrayVec::new();
+        for core in 0..self.figures.len() {
+            rooms.push(self.room(core, whole));
         }
         rooms
     }
 
     // The room of a core: its bound less its live and its departed parts.
-    fn room(&self, core: usize, whole: u32) -> u32
-        requires { (core < self.now.cores) × (whole ≤ 4000000) }
-        ensures { result ≡ room (bare whole self.now) (view self.now) core }
+    fn room(&self, core: usize, whole: Whole) -> u32
+        requires { core < length (figures_of self.now) }
+        ensures { result ≡ room (bare whole.parts self.now) (view self.now) core }
     {
         let live = self.table.live_parts(core as u32);
         let departed = self.ledger.departed(self.table.clock(), core as u32);
@@ -101,10 +87,10 @@ impl Inner {
     }
 
     // The bound of a core.
-    pub fn bound(&self, core: usize, whole: u32) -> u32
-        requires { (core < self.now.cores) × (whole ≤ 4000000) }
-        ensures { result ≡ bound (bare whole self.now) core }
+    pub fn bound(&self, core: usize, whole: Whole) -> u32
+        requires { core < length (figures_of self.now) }
+        ensures { result ≡ bound (bare whole.parts self.now) core }
     {
-        (whole as u64 * self.figures[core] as u64 / 1000) as u32
+        (whole.parts() as u64 * self.figures[core] as u64 / 1000) as u32
     }
 }

@@ -1,21 +1,26 @@
 // What can be asked of the engine's figures. The whole is the measure's.
-ghost use Rattle.std.specs.Prelude.{◌≡◌, ◌≤◌, length};
+ghost use Rattle.std.specs.Prelude.{◌≡◌, ◌<◌, ◌≤◌, length, MatchResult};
 ghost use Rattle.std.specs.List.{slice_get};
+ghost use Rattle.terms.specs.declared.refusals.Refusal.TheVariants.{NoCore};
 ghost use Rattle.rules.specs.Questions.{bound_of, live_parts_of, departed_parts_of, name_of, record_of, ledger_length};
 ghost use Rattle.engine.specs.View.{view, figures_of, bare};
 ghost use Rattle.engine.specs.Names.{eight_names};
 
-use super::Inner;
-use super::making::NO_PICKS;
-use rules::Reservation;
+use super::{Inner, Whole};
+use rules::{MOST_CORES, Reservation};
 use table::Picks;
 use terms::Refusal;
+
+// No core is dealt to anyone.
+const NO_PICKS: Picks = Picks {
+    names: [None; MOST_CORES],
+};
 
 impl Inner {
     pub fn cores(&self) -> usize
         ensures { result ≡ length (figures_of self.now) }
     {
-        self.cores
+        self.figures.len()
     }
 
     pub fn clock(&self) -> u32
@@ -24,59 +29,54 @@ impl Inner {
         self.table.clock()
     }
 
-    pub fn bound_of(&self, core: u32, whole: u32) -> Result<u32, Refusal>
-        requires { whole ≤ 4000000 }
-        ensures { result ≡ bound_of (bare whole self.now) core }
+    // The place of a core, where there is one.
+    pub fn core(&self, core: u32) -> Result<usize, Refusal>
+        ensures { MatchResult result (λ i. (i ≡ core) × (core < length (figures_of self.now))) (λ e. (length (figures_of self.now) ≤ core) × (e ≡ NoCore)) }
     {
-        if core as usize >= self.cores() {
+        if core as usize >= self.figures.len() {
             return Err(Refusal::NoCore);
         }
-        Ok(self.bound(core as usize, whole))
+        Ok(core as usize)
+    }
+
+    pub fn bound_of(&self, core: u32, whole: Whole) -> Result<u32, Refusal>
+        ensures { result ≡ bound_of (bare whole.parts self.now) core }
+    {
+        let place = self.core(core)?;
+        Ok(self.bound(place, whole))
     }
 
     pub fn live_parts(&self, core: u32) -> Result<u64, Refusal>
         ensures { result ≡ live_parts_of (bare 0 self.now) (view self.now) core }
     {
-        if core as usize >= self.cores() {
-            return Err(Refusal::NoCore);
-        }
+        self.core(core)?;
         Ok(self.table.live_parts(core))
     }
 
     pub fn departed_parts(&self, core: u32) -> Result<u64, Refusal>
         ensures { result ≡ departed_parts_of (bare 0 self.now) (view self.now) core }
     {
-        if core as usize >= self.cores() {
-            return Err(Refusal::NoCore);
-        }
+        self.core(core)?;
         Ok(self.ledger.departed(self.table.clock(), core))
     }
 
     pub fn name_dealt(&self, core: u32) -> Result<Option<u32>, Refusal>
         ensures { result ≡ name_of (bare 0 self.now) (view self.now) core }
     {
-        if core as usize >= self.cores {
-            return Err(Refusal::NoCore);
-        }
-        if !self.out {
-            return Ok(None);
-        }
-        Ok(self.picks.names[core as usize])
+        let place = self.core(core)?;
+        Ok(self.picks().names[place])
     }
 
     pub fn picks(&self) -> Picks
         ensures { result.names ≡ eight_names (view self.now).names }
     {
-        if self.out { self.picks } else { NO_PICKS }
+        self.round.unwrap_or(NO_PICKS)
     }
 
     pub fn reservation(&self, number: u32) -> Result<Reservation, Refusal>
         ensures { result ≡ record_of (view self.now) number }
     {
-        match self.table.find(number) {
-            Some(row) => Ok(row),
-            None => Err(Refusal::NoReservation),
-        }
+        self.table.find(number).ok_or(Refusal::NoReservation)
     }
 
     pub fn live(&self) -> &[Reservation]

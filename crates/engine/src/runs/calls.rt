@@ -1,159 +1,92 @@
 // One call of a run, of which the observer is told.
-ghost use Rattle.std.specs.Prelude.{◌≡◌, true, is_some, Some, None};
-ghost use Rattle.rules.specs.declared.types.Call.TheVariants.{Settle};
-ghost use Rattle.engine.specs.Answers.{placed, awake, left, departed};
-ghost use Rattle.engine.specs.Along.{Drives};
-ghost use Rattle.engine.specs.Driving.{once, dealing};
-ghost use Rattle.engine.specs.Engines.{setup, shown};
+ghost use Rattle.std.specs.Prelude.{◌≡◌, is_ok};
+ghost use Rattle.rules.specs.declared.types.Answer.TheVariants.{Dealt, Clock};
+ghost use Rattle.rules.specs.declared.types.Call.TheVariants.{Deal, Settle};
+ghost use Rattle.engine.specs.Answers.{answer_by, departure_said};
+ghost use Rattle.engine.specs.Driven.{Called, Drove};
+ghost use Rattle.engine.specs.Driving.{trying};
 
-use crate::answers::{Awake, Departure, Placement, Round, Unsettled};
-use crate::engine::Engine;
+use super::Runner;
+use crate::answers::Departure;
 use crate::observer::Observer;
 use measure::Measure;
 use policy::Policy;
 use rules::{Answer, Call};
 use terms::Refusal;
 
-fn placed(res: Result<Placement, Refusal>) -> Answer
-    ensures { result ≡ placed res }
+fn departed(departure: Departure) -> Answer
+    ensures { result ≡ departure_said departure }
 {
-    match res {
-        Ok(placement) => Answer::Placed(placement.number, placement.core),
-        Err(refusal) => Answer::Refused(refusal),
-    }
+    departure.until.map_or(Answer::Free, Answer::Until)
 }
 
-fn awake(res: Result<Awake, Refusal>) -> Answer
-    ensures { result ≡ awake res }
-{
-    match res {
-        Ok(woken) => Answer::Awake(woken.state, woken.deadline),
-        Err(refusal) => Answer::Refused(refusal),
-    }
-}
-
-fn left(res: Result<u32, Refusal>) -> Answer
-    ensures { result ≡ left res }
-{
-    match res {
-        Ok(budget) => Answer::Left(budget),
-        Err(refusal) => Answer::Refused(refusal),
-    }
-}
-
-fn departed(res: Result<Departure, Refusal>) -> Answer
-    ensures { result ≡ departed res }
-{
-    match res {
-        Ok(Departure::Until(tick)) => Answer::Until(tick),
-        Ok(Departure::Free) => Answer::Free,
-        Err(refusal) => Answer::Refused(refusal),
-    }
-}
-
-// Deals while no round is in hand.
-pub fn deal<M: Measure, P: Policy, O: Observer>(
-    engine: &mut Engine<M, P>,
-    observer: &mut O,
-) -> Option<Round>
-    ensures made { setup M.Measure.whole M.Measure.price P.Policy.choice engine.new ≡ setup M.Measure.whole M.Measure.price P.Policy.choice engine.old }
-    ensures drives { Drives O.Observer.shows (setup M.Measure.whole M.Measure.price P.Policy.choice engine.old) (dealing (setup M.Measure.whole M.Measure.price P.Policy.choice engine.old)) (shown engine.old) None observer.old (shown engine.new) result (is_some result) observer.new }
-{
-    let tick = engine.clock();
-    match engine.deal() {
-        Ok(round) => {
-            observer.said(tick, Call::Deal, Answer::Dealt(round.tick));
-            let picks = engine.picks();
-            observer.dealt(&picks.names[0..engine.cores()]);
-            Some(round)
-        }
-        Err(refusal) => {
-            observer.said(tick, Call::Deal, Answer::Refused(refusal));
-            None
-        }
-    }
-}
-
-// Settles the round in hand.
-pub fn settle<M: Measure, P: Policy, O: Observer>(
-    engine: &mut Engine<M, P>,
-    round: Round,
-    observer: &mut O,
-) -> Option<Round>
-    ensures made { setup M.Measure.whole M.Measure.price P.Policy.choice engine.new ≡ setup M.Measure.whole M.Measure.price P.Policy.choice engine.old }
-    ensures drives { Drives O.Observer.shows (setup M.Measure.whole M.Measure.price P.Policy.choice engine.old) (λ _. once (Settle round.tick)) (shown engine.old) (Some round) observer.old (shown engine.new) result true observer.new }
-{
-    let tick = engine.clock();
-    let call = Call::Settle(round.tick);
-    match engine.settle(round) {
-        Ok(clock) => {
-            observer.said(tick, call, Answer::Clock(clock));
-            None
-        }
-        Err(Unsettled { refusal, round }) => {
-            observer.said(tick, call, Answer::Refused(refusal));
-            Some(round)
-        }
-    }
-}
-
-// Performs a call with this round in hand, or none; what it answers is the round in hand then.
-pub fn perform<M: Measure, P: Policy, O: Observer>(
-    engine: &mut Engine<M, P>,
-    hand: Option<Round>,
-    call: Call,
-    observer: &mut O,
-) -> Option<Round>
-    ensures made { setup M.Measure.whole M.Measure.price P.Policy.choice engine.new ≡ setup M.Measure.whole M.Measure.price P.Policy.choice engine.old }
-    ensures drives { Drives O.Observer.shows (setup M.Measure.whole M.Measure.price P.Policy.choice engine.old) (λ _. once call) (shown engine.old) hand observer.old (shown engine.new) result true observer.new }
-{
-    let tick = engine.clock();
-    match call {
-        Call::Admit(budget, period) => {
-            let answer = placed(engine.admit(budget, period));
-            observer.said(tick, call, answer);
-            hand
-        }
-        Call::Wake(number) => {
-            let answer = awake(engine.wake(number));
-            observer.said(tick, call, answer);
-            hand
-        }
-        Call::Rest(number) => {
-            let answer = left(engine.rest(number));
-            observer.said(tick, call, answer);
-            hand
-        }
-        Call::Leave(number) => {
-            let answer = departed(engine.leave(number));
-            observer.said(tick, call, answer);
-            hand
-        }
-        Call::Move(number, core) => {
-            let answer = departed(engine.migrate(number, core));
-            observer.said(tick, call, answer);
-            hand
-        }
-        Call::Deal => match hand {
-            None => deal(engine, observer),
-            Some(round) => {
-                observer.said(tick, call, Answer::Refused(Refusal::RoundOut));
-                Some(round)
+impl<M: Measure, P: Policy> Runner<M, P> {
+    // Makes a call and tells the observer what it answers, and whom a deal named. In line, as a round's two calls are known.
+    #[inline(always)]
+    pub fn perform<O: Observer>(&mut self, call: Call, observer: &mut O) -> Result<(), Refusal>
+        ensures { Drove M.Measure.whole M.Measure.price P.Policy.choice O.Observer.shows (trying call) self.old observer.old (is_ok result) self.new observer.new }
+    {
+        let tick = self.engine.clock();
+        let answer = self.make(call).unwrap_or_else(Answer::Refused);
+        observer.said(tick, call, answer);
+        match answer {
+            Answer::Refused(refusal) => Err(refusal),
+            Answer::Dealt(_) => {
+                let picks = self.engine.picks();
+                observer.dealt(&picks.names[0..self.engine.cores()]);
+                Ok(())
             }
-        },
-        Call::Settle(asked) => match hand {
-            None => {
-                observer.said(tick, call, Answer::Refused(Refusal::WrongRound));
-                None
+            _ => Ok(()),
+        }
+    }
+
+    // Makes a call. In line as well.
+    #[inline(always)]
+    fn make(&mut self, call: Call) -> Result<Answer, Refusal>
+        ensures { Called M.Measure.whole M.Measure.price P.Policy.choice call self.old (answer_by (λ a. a) result) self.new }
+    {
+        match call {
+            Call::Admit(budget, period) => {
+                let placement = self.engine.admit(budget, period)?;
+                Ok(Answer::Placed(placement.number, placement.core))
             }
-            Some(round) => {
-                if round.tick == asked {
-                    settle(engine, round, observer)
-                } else {
-                    observer.said(tick, call, Answer::Refused(Refusal::WrongRound));
-                    Some(round)
-                }
+            Call::Wake(number) => {
+                let woken = self.engine.wake(number)?;
+                Ok(Answer::Awake(woken.state, woken.deadline))
             }
-        },
+            Call::Rest(number) => Ok(Answer::Left(self.engine.rest(number)?)),
+            Call::Leave(number) => Ok(departed(self.engine.leave(number)?)),
+            Call::Move(number, core) => Ok(departed(self.engine.migrate(number, core)?)),
+            Call::Deal => Ok(Answer::Dealt(self.deal()?)),
+            Call::Settle(tick) => Ok(Answer::Clock(self.settle(tick)?)),
+        }
+    }
+
+    // Deals a round, which is in hand then.
+    fn deal(&mut self) -> Result<u32, Refusal>
+        ensures { Called M.Measure.whole M.Measure.price P.Policy.choice Deal self.old (answer_by Dealt result) self.new }
+    {
+        let round = self.engine.deal()?;
+        let tick = round.tick;
+        match self.hand.replace(round) {
+            None => Ok(tick),
+            Some(_) => unreachable(),
+        }
+    }
+
+    // Settles the round in hand, where it was dealt at this tick.
+    fn settle(&mut self, tick: u32) -> Result<u32, Refusal>
+        ensures { Called M.Measure.whole M.Measure.price P.Policy.choice (Settle tick) self.old (answer_by Clock result) self.new }
+    {
+        if tick != self.engine.clock() {
+            return Err(Refusal::WrongRound);
+        }
+        let Some(round) = self.hand.take() else {
+            return Err(Refusal::WrongRound);
+        };
+        match self.engine.settle(round) {
+            Ok(clock) => Ok(clock),
+            Err(_) => unreachable(),
+        }
     }
 }

@@ -30,8 +30,7 @@ fn left(res: Result<u32, Refusal>) -> Answer {
 
 fn departed(res: Result<Departure, Refusal>) -> Answer {
     match res {
-        Ok(Departure::Until(tick)) => Answer::Until(tick),
-        Ok(Departure::Free) => Answer::Free,
+        Ok(departure) => departure.until.map_or(Answer::Free, Answer::Until),
         Err(refusal) => Answer::Refused(refusal),
     }
 }

@@ -4,7 +4,7 @@ ghost use Rattle.calendar.specs.Places.{held};
 ghost use Rattle.calendar.specs.Queues.{queue, first};
 ghost use Rattle.rules.specs.Order.{lapses_first};
 ghost use Rattle.rules.specs.Parts.{departed_parts};
-ghost use Rattle.ledger.specs.Lapses.{counted_parts};
+ghost use Rattle.rules.specs.System.{ledger_limit};
 ghost use Rattle.ledger.specs.Entries.{entries, SameEntries, write_answer, written, KeptIfFull, purged};
 
 use super::{LEDGER_LIMIT, Ledger};
@@ -45,11 +45,9 @@ impl Ledger {
         ensures next { SameEntries (entries self.new) (written entry (entries self.old)) }
         ensures refused { KeptIfFull self.old self.new }
     {
-        if self.len() == LEDGER_LIMIT {
-            return Err(Refusal::LedgerFull);
-        }
-        // There is a place, so this is not refused.
-        let _ = self.calendar.put(&mut self.places, entry);
+        self.calendar
+            .put(&mut self.places, entry)
+            .map_err(|_| Refusal::LedgerFull)?;
         self.earliest = self.earliest.min(entry.lapse);
         Ok(())
     }
@@ -59,10 +57,10 @@ impl Ledger {
         ensures { SameEntries (entries self.new) (purged clock (entries self.old)) }
     {
         if self.earliest <= clock {
-            self.earliest = match take_lapsed(&mut self.calendar, &mut self.places, clock) {
-                Some(entry) => entry.lapse,
-                None => u32::MAX,
-            };
+            self.earliest = take_lapsed(&mut self.calendar, &mut self.places, clock).map_or(
+                u32::MAX,
+                |entry| entry.lapse,
+            );
         }
     }
 
@@ -70,26 +68,23 @@ impl Ledger {
     pub fn departed(&self, clock: u32, core: u32) -> u64
         ensures { result ≡ departed_parts clock core (entries self.now) }
     {
-        let mut parts = 0;
-        for i in 0..self.calendar.len() {
-            parts += counted(self.places[i], clock, core) as u64;
-        }
-        parts
+        self.held()
+            .iter()
+            .filter(|entry| entry.core == core && clock < entry.lapse)
+            .map(|entry| entry.parts as u64)
+            .sum()
+    }
+
+    // The entries that it holds, as its places arrange them.
+    fn held(&self) -> &[Entry]
+        ensures all { result.now ≡ entries self.now }
+        ensures few { length result.now ≤ ledger_limit }
+    {
+        &self.places[..self.calendar.len()]
     }
 }
 
-// The parts that a core counts of one entry after the clock.
-fn counted(entry: Entry, clock: u32, core: u32) -> u32
-    ensures { result ≡ counted_parts clock core entry }
-{
-    if entry.core == core && clock < entry.lapse {
-        entry.parts
-    } else {
-        0
-    }
-}
-
-// Takes the least entry while its lapse tick has come, and shows the least that is left.
+// Takes the least entry while its lapse tick has come, and shows the least that is left. The places are lent to the calendar at each call.
 fn take_lapsed(calendar: &mut Calendar, places: &mut [Entry], clock: u32) -> Option<Entry>
     ensures answer { result ≡ first (queue lapses_first (held calendar.new places.new)) }
     ensures next { SameEntries (held calendar.new places.new) (purged clock (held calendar.old places.old)) }

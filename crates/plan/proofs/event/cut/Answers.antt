@@ -4,6 +4,6 @@ use Rattle.plan.proofs.event.cut.Goals as goal
 
 pub returns-in-Ok : goal.returns-in-Ok
 returns-in-Ok c =
-    let short = field_cut c.args.bytes.now c.args.start 44 20 (omega arith) in
+    let short = field_cut c.args.input.bytes.now c.args.input.start 44 20 (omega arith) in
     let front = c.in-Ok.ensures in
     search rules

@@ -1,31 +1,34 @@
-use Rattle.std.proofs.Common.{Ok, Err, sym, ap, ◌∙◌}
+use Rattle.std.proofs.Common.{◌≤◌, length, Ok, sym, ap, ◌∙◌, arith}
+use Rattle.std.proofs.lemmas.Result.{err_from_is_err_and}
 use Rattle.plan.specs.Records.{row_with}
-use Rattle.plan.proofs.Complete.{no_kind, bad_a, bad_b, good}
+use Rattle.plan.proofs.Complete.{bad_kind, bad_a, bad_b, good}
 use Rattle.plan.proofs.event.read_event.Goals as goal
 
-pub returns-in_default-kind_of : goal.returns-in_default-kind_of
-returns-in_default-kind_of c =
-    record {
-      answer = ap Err c.flawed.ensures ∙ sym (no_kind c.in-Some.ensures _ c.in_default-kind_of.ensures);
-      rest = tt;
-    }
+pub returns-in_err-kind-clause-answer : goal.returns-in_err-kind-clause-answer
+returns-in_err-kind-clause-answer c =
+    let p = err_from_is_err_and c.from_residual.result c.from_residual.ensures.1 in
+    let u = rw c.in-Some.ensures.cases.0 at c.unpack-figures.ensures in
+    let long : 8 ≤ length c.args.input.bytes.now = omega (arith, c.in-Some.ensures.cases.2) in
+    rw (p.1, p.2) (sym (bad_kind _ _ long u c.in_err-kind.ensures))
 
-pub returns-then-not-is_proper : goal.returns-then-not-is_proper
-returns-then-not-is_proper c =
-    record {
-      answer = ap Err c.flawed-then-not-is_proper.ensures ∙ sym (bad_a c.in-Some.ensures _ c.in-Some-kind_of.ensures c.lacks_a.ensures c.if-not-is_proper.ensures);
-      rest = tt;
-    }
+pub returns-in_err-check_figure-clause-answer : goal.returns-in_err-check_figure-clause-answer
+returns-in_err-check_figure-clause-answer c =
+    let p = err_from_is_err_and c.from_residual-in_err-check_figure.result c.from_residual-in_err-check_figure.ensures.1 in
+    let u = rw c.in-Some.ensures.cases.0 at c.unpack-figures.ensures in
+    let long : 8 ≤ length c.args.input.bytes.now = omega (arith, c.in-Some.ensures.cases.2) in
+    rw (p.1, p.2) (sym (bad_a _ _ long u c.in_ok-kind.ensures c.lacks_a.ensures c.in_err-check_figure.ensures))
 
-pub returns-then-not-is_proper-2 : goal.returns-then-not-is_proper-2
-returns-then-not-is_proper-2 c =
-    record {
-      answer = ap Err c.flawed-then-not-is_proper-2.ensures ∙ sym (bad_b c.in-Some.ensures _ c.in-Some-kind_of.ensures c.lacks_a.ensures c.if-not-is_proper.ensures c.lacks_b.ensures c.if-not-is_proper-2.ensures);
-      rest = tt;
-    }
+pub returns-in_err-check_figure-2-clause-answer : goal.returns-in_err-check_figure-2-clause-answer
+returns-in_err-check_figure-2-clause-answer c =
+    let p = err_from_is_err_and c.from_residual-in_err-check_figure-2.result c.from_residual-in_err-check_figure-2.ensures.1 in
+    let u = rw c.in-Some.ensures.cases.0 at c.unpack-figures.ensures in
+    let long : 8 ≤ length c.args.input.bytes.now = omega (arith, c.in-Some.ensures.cases.2) in
+    rw (p.1, p.2) (sym (bad_b _ _ long u c.in_ok-kind.ensures c.lacks_a.ensures c.in_ok-check_figure.ensures c.lacks_b.ensures c.in_err-check_figure-2.ensures))
 
-pub returns : goal.returns
-returns c =
-    let right = good c.in-Some.ensures _ c.in-Some-kind_of.ensures c.lacks_a.ensures c.if-not-is_proper.ensures c.lacks_b.ensures c.if-not-is_proper-2.ensures in
-    let eight = ap (λ bs. row_with c.in-Some-kind_of.kind c.in-Some.figures bs c.args.start.byte) c.in-Some-first_chunk.ensures.cases.same in
-    record { answer = ap Ok (c.event_of.ensures ∙ eight) ∙ sym right; rest = c.in-Some.ensures.rest }
+pub returns-clause-answer : goal.returns-clause-answer
+returns-clause-answer c =
+    let u = rw c.in-Some.ensures.cases.0 at c.unpack-figures.ensures in
+    let long : 8 ≤ length c.args.input.bytes.now = omega (arith, c.in-Some.ensures.cases.2) in
+    let right = good _ _ long u c.in_ok-kind.ensures c.lacks_a.ensures c.in_ok-check_figure.ensures c.lacks_b.ensures c.in_ok-check_figure-2.ensures in
+    let eight = ap (λ bs. row_with c.in_ok-kind.kind c.unpack-figures.result bs c.args.input.start.byte) c.in-Some.ensures.cases.0 in
+    ap Ok (c.event_of.ensures ∙ eight) ∙ sym right

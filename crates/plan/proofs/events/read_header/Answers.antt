@@ -1,6 +1,6 @@
-use Rattle.std.proofs.Common.{rules}
-use Rattle.std.proofs.lemmas.List.{take_rest}
+use Rattle.std.proofs.Common.{sym}
+use Rattle.plan.proofs.Limits.{header_limits}
 use Rattle.plan.proofs.events.read_header.Goals as goal
 
-pub returns : goal.returns
-returns c = search (rules, take_rest)
+pub returns-clause-limits : goal.returns-clause-limits
+returns-clause-limits c = header_limits _ _ (sym c.in_ok-header.ensures.answer)

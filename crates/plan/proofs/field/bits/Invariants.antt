@@ -3,4 +3,4 @@ use Rattle.plan.specs.Bits.{bits}
 use Rattle.plan.proofs.field.bits.Given as goal
 
 abbrev pub invariant-loop-k : goal.invariant-loop-k
-invariant-loop-k l = l.value ≡ bits l.bytes l.i l.k
+invariant-loop-k l = l.value ≡ bits l.bytes l.field.at l.k

@@ -1,27 +1,28 @@
-use Rattle.std.proofs.Common.{sym, refl}
-use lib.Seq.{drop-length}
-use Rattle.policy.proofs.Downward.{among_exists, takes, too_small, beaten_there}
+use Rattle.std.proofs.Common.{◌≡◌, length, rules, arith}
+use Rattle.policy.proofs.Walk.{named, turned, too_small, left}
 use Rattle.policy.proofs.fits.pick.Goals as goal
-use Rattle.policy.proofs.fits.pick.Goals.{else-parts-room-via-then-parts-room+else-not-beaten, else-parts-room-via-else-parts-room}
+use Rattle.policy.proofs.fits.pick.Goals.{then-parts-room+then-is_none_or, else-parts-room, else-parts-room-via-then-parts-room+else-is_none_or, else-parts-room-via-else-parts-room}
 
-pub loop-core-init : goal.loop-core-init
-loop-core-init c = rw (drop-length c.args.rooms.now) refl
-
-pub beaten-requires : goal.beaten-requires
-beaten-requires c = among_exists c.args.fit c.args.rooms.now c.args.parts c.loop-core.core _ c.loop-core.invariant
-
-pub loop-core-preserved-then-not-beaten : goal.loop-core-preserved-then-not-beaten
-loop-core-preserved-then-not-beaten c =
-    takes c.args.fit c.args.rooms.now c.args.parts c.loop-core.core c.loop-core.named
-    c.loop-core-test.true c.loop-core.auto.core c.loop-core.invariant c.if-parts-room.true (sym c.if-not-beaten.ensures)
+pub returns : goal.returns
+returns g c prefers order tells =
+    let held = c.loop-core.invariant prefers order tells in
+    let all : c.loop-core.core ≡ length c.args.rooms.now = omega arith in
+    let answer = named prefers c.args.rooms.now c.args.parts order c.loop-core.named (rw all at held) in
+    search rules
 
 pub loop-core-preserved : goal.loop-core-preserved
-loop-core-preserved c =
-    elim c.else-parts-room.branch [
-      | else-parts-room-via-then-parts-room+else-not-beaten w ↦
-          beaten_there c.args.fit c.args.rooms.now c.args.parts c.loop-core.core c.loop-core.named
-          c.loop-core-test.true c.loop-core.auto.core c.loop-core.invariant (sym w.if-not-beaten.ensures)
-      | else-parts-room-via-else-parts-room w ↦
-          too_small c.args.fit c.args.rooms.now c.args.parts c.loop-core.core c.loop-core.named
-          c.loop-core-test.true c.loop-core.auto.core c.loop-core.invariant w.if-parts-room.false
+loop-core-preserved g c prefers order tells =
+    let says = goal.F-post g c.args.prefers in
+    let held = c.loop-core.invariant prefers order tells in
+    elim c.if-parts-room.branch [
+      | then-parts-room+then-is_none_or w ↦
+          let is = w.is_none_or.ensures in
+          rw w.named-is (turned prefers _ _ order _ says tells _ held w.if-parts-room.true _ (search rules) w.if-is_none_or.true)
+      | else-parts-room w ↦
+          elim w.else-parts-room.branch [
+            | else-parts-room-via-then-parts-room+else-is_none_or w' ↦
+                let is = w'.is_none_or.ensures in
+                rw w.named-is (left prefers _ _ order _ says tells _ held _ (search rules) w'.if-is_none_or.false)
+            | else-parts-room-via-else-parts-room w' ↦ rw w.named-is (too_small prefers _ _ order _ _ held w'.if-parts-room.false)
+          ]
     ]

@@ -1,44 +1,40 @@
-use Rattle.std.proofs.Common.{◌-◌, ◌≤◌, [], map, length, take, sym, ap, ◌∙◌, subst}
-use Rattle.rules.specs.Setup.{setup_of}
+use Rattle.std.proofs.Common.{◌≡◌, [], map, length, ap, ◌∙◌}
+use Rattle.std.proofs.lemmas.Result.{IfOk-at_ok, IfOk-weaker}
+use Rattle.rules.specs.Replay.{replay}
 use Rattle.rules.specs.System.{fresh}
+use Rattle.rules.specs.Setup.{setup_of}
 use Rattle.engine.specs.Driving.{course}
 use Rattle.engine.specs.Engines.{shown}
-use Rattle.engine.proofs.Inners.{made_few}
+use Rattle.engine.specs.View.{figures_of}
+use Rattle.plan.specs.Records.{row_of}
 use Rattle.report.specs.Lines.{line_text}
-use Rattle.report.specs.Written.{text_of}
+use Rattle.report.specs.Reports.{step_of, header_lines}
 use Rattle.report.proofs.Idle.{steps_idle}
-use Rattle.report.proofs.Playing.{made_map, refused_lines, accepted_lines, closed_lines, in_hand_out, take_all_of}
+use Rattle.report.proofs.Playing.{none_told, played, in_hand_out}
 use Rattle.report.proofs.lines.play.Goals as goal
 
 pub unreachable-requires : goal.unreachable-requires
 unreachable-requires g c =
     let ran = c.in-Ok.ensures in
-    in_hand_out c.in-Ok.field-0.round c.in-Some.field-0 _ ran.hand c.in-Some.is (steps_idle _ c.args.steps.now c.requires)
+    let s = setup_of (g.M.Measure.whole c.args.measure) (g.M.Measure.price c.args.measure) (g.P.Policy.choice c.args.policy) c.deref-2.result.now c.args.plan.now.header.start in
+    let steps : c.deref-3.result.now ≡ map step_of (map row_of c.args.plan.now.events.items) =
+    c.deref-3.ensures.value ∙ c.in_ok-steps.ensures ∙ ap (λ es. map step_of (map row_of es)) c.deref.ensures.value in
+    let idle = ap (λ xs. (replay s (course s (fresh s) xs).calls).out) steps ∙ steps_idle s (map row_of c.args.plan.now.events.items) in
+    in_hand_out c.in-Ok.field-0.round c.in_default.field-0 (replay s (course s (fresh s) c.deref-3.result.now).calls) ran.hand c.in_default.is idle
 
-pub close-requires : goal.close-requires
-close-requires g c =
+pub returns-in-Ok : goal.returns-in-Ok
+returns-in-Ok g c =
     let ran = c.in-Ok.ensures in
-    subst (λ s. length s.figures ≤ 8) (sym ran.setup) (made_few _ _ ran.accepted)
-
-pub returns-in-None : goal.returns-in-None
-returns-in-None g c =
-    let ran = c.in-Ok.ensures in
-    let h = c.args.header.now in
-    let steps = c.args.steps.now in
-    let given = take_all_of c.figures_of-figures.result c.core_bounds-bounds.result.now c.figures_of-figures.ensures.front ∙ c.core_bounds-bounds.ensures in
     let whole = g.M.Measure.whole c.args.measure in
     let price = g.M.Measure.price c.args.measure in
     let choice = g.P.Policy.choice c.args.policy in
-    let notes = c.run.new.observer in
-    let figures = take (length c.core_bounds-bounds.result.now - 0) c.figures_of-figures.result in
-    let s = setup_of whole price choice figures h.start in
-    made_map c.close.result _ _
-    (λ v told.
-    closed_lines s (course s (fresh s) steps) (shown c.in-Ok.field-0.engine) c.in-Ok.field-0.complete _ (text_of notes) _ told.1 (ran.observed [] (λ _. ap (map line_text) c.new-notes.ensures.lines) told.0) ran.complete (ap (λ s. length s.figures) ran.setup) ran.shown ∙ accepted_lines whole price choice h steps figures given ran.accepted)
+    let h = c.args.plan.now.header in
+    let engine = c.in-Ok.field-0.engine in
+    let figures = c.deref-2.ensures.value ∙ c.in_ok-figures.ensures in
+    let steps : c.deref-3.result.now ≡ map step_of (map row_of c.args.plan.now.events.items) =
+    c.deref-3.ensures.value ∙ c.in_ok-steps.ensures ∙ ap (λ es. map step_of (map row_of es)) c.deref.ensures.value in
+    let text = map line_text c.in_ok-notes-in-Ok.field-0.items in
+    let told = IfOk-at_ok _ c.in_ok-notes-in-Ok.was (ran.observed [] (none_told c.new-notes.result.lines _ c.new-notes.ensures)) in
+    IfOk-weaker c.close.result _ _
+    (λ v closed. played whole price choice h c.deref-3.result.now c.deref-2.result.now figures ran.accepted (shown engine) c.in-Ok.field-0.complete (length (figures_of engine.inner)) text (map line_text v.items) closed told ran.complete (ap (λ s. length s.figures) ran.setup) ran.shown ∙ ap (header_lines whole price choice h) steps)
     c.close.ensures
-
-pub returns-in-Err : goal.returns-in-Err
-returns-in-Err g c =
-    let refused = c.in-Err.ensures in
-    let given = take_all_of c.figures_of-figures.result c.core_bounds-bounds.result.now c.figures_of-figures.ensures.front ∙ c.core_bounds-bounds.ensures in
-    ap (map line_text) c.new.ensures.items ∙ refused_lines (g.M.Measure.whole c.args.measure) (g.M.Measure.price c.args.measure) (g.P.Policy.choice c.args.policy) c.args.header.now c.args.steps.now _ given _ refused.0.refused

@@ -1,14 +1,9 @@
 use Rattle.std.proofs.Common.{refl}
 use Rattle.rules.specs.declared.types.Call.TheVariants.{Rest}
-use Rattle.engine.proofs.Engines.{performs, same_setup, same_engine}
+use Rattle.engine.proofs.Engines.{performs}
 use Rattle.engine.proofs.engine.Engine.rest.Goals as goal
 
-pub returns : goal.returns
-returns g c =
+pub returns-clause-next : goal.returns-clause-next
+returns-clause-next g c =
     let e = c.args.self.now in
-    let f = c.rest.ensures.next in
-    record {
-      next = performs g.M.Measure.whole g.M.Measure.price g.P.Policy.choice e (g.met.M.Measure.lawful e.measure) (g.met.P.Policy.lawful e.policy) (Rest c.args.number) _ _ _ refl f;
-      made = same_setup g.M.Measure.whole g.M.Measure.price g.P.Policy.choice e c.rest.new.self f.figures f.start;
-      kept = λ refused. same_engine g.M.Measure.whole g.M.Measure.price g.P.Policy.choice e c.rest.new.self (c.rest.ensures.kept refused);
-    }
+    performs g.M.Measure.whole g.M.Measure.price g.P.Policy.choice e (g.met.M.Measure.lawful e.measure) (g.met.P.Policy.lawful e.policy) (Rest c.args.number) _ _ _ refl c.rest.ensures.next

@@ -1,46 +1,41 @@
-use Rattle.std.proofs.Common.{length, take, sym, refl, ap, ◌∙◌, arith}
-use Rattle.std.proofs.lemmas.Bool.{false≢true}
-use Rattle.terms.specs.declared.refusals.Refusal.TheVariants.{RoundOut, ClockEnd}
-use Rattle.engine.specs.Limits.{none_from}
+use Rattle.std.proofs.Common.{length, take, refl, ap, ◌∙◌, arith}
+use Rattle.std.proofs.lemmas.Grind.{common_steps}
+use Rattle.terms.specs.declared.refusals.Refusal.TheVariants.{ClockEnd}
 use Rattle.rules.specs.declared.types.Answer.TheVariants.{Dealt}
-use Rattle.rules.specs.Dealing.{picks}
+use Rattle.rules.specs.Calls.{deal}
+use Rattle.table.specs.Calls.{dealt}
 use Rattle.table.specs.View.{clock_of, live_of}
-use Rattle.engine.specs.View.{view, bare}
-use Rattle.engine.proofs.Following.{follows_refused, follows_answered}
-use Rattle.engine.proofs.Inners.{figures_long}
-use Rattle.engine.proofs.Rounds.{deal_out, deal_end, deal_done, dealt_take, dealt_none, dealt_long, going_on}
+use Rattle.engine.specs.View.{view, bare, figures_of}
+use Rattle.engine.proofs.Following.{follows_kept, follows_handed, follows_answered}
+use Rattle.engine.proofs.Inners.{inner_same, few}
+use Rattle.engine.proofs.Rounds.{deal_end, deal_done, dealt_fits, dealt_take, going_on}
 use Rattle.engine.proofs.inner.Inner.deal.Goals as goal
 
-pub returns-then-self : goal.returns-then-self
-returns-then-self c =
-    let i = c.args.self.now in
-    record { next = follows_refused i _ RoundOut (deal_out (bare 0 i) (view i) c.if-self.true); kept = λ _. refl }
+pub returns-in_err-check_settled-clause-next : goal.returns-in_err-check_settled-clause-next
+unfolding deal
+returns-in_err-check_settled-clause-next c =
+    let out = c.in_err-check_settled.ensures in
+    follows_handed (λ r. Dealt r.tick) _ _ _ _ _ c.from_residual.ensures.1 (grind (arith, common_steps)) refl
 
-pub returns-then-tick : goal.returns-then-tick
-returns-then-tick c =
+pub returns-then-tick-clause-next : goal.returns-then-tick-clause-next
+returns-then-tick-clause-next c =
     let i = c.args.self.now in
-    record { next = follows_refused i _ ClockEnd (deal_end (bare 0 i) (view i) c.if-self.false (omega (arith, c.clock-tick.ensures.answer, c.if-tick.true))); kept = λ _. refl }
+    follows_kept i _ _ ClockEnd (deal_end (bare 0 i) (view i) c.in_ok-check_settled.ensures (omega (arith, c.clock-tick.ensures.answer, c.if-tick.true))) (inner_same _ _ refl refl refl refl refl refl)
 
-pub invariant_of-self : goal.invariant_of-self
-invariant_of-self c =
+pub invariant_of-self-2 : goal.invariant_of-self-2
+invariant_of-self-2 c =
     let i = c.args.self.now in
-    let is = c.picks-self.ensures in
-    let tick = c.clock-tick.ensures in
+    let names = c.picks.ensures ∙ ap (λ n. dealt n (live_of i.table)) c.len.ensures.value in
     record {
-      few = i.few;
-      sized = i.sized;
       made = i.made;
       numbered = i.numbered;
-      named = ap length is ∙ dealt_long i.cores (live_of i.table) i.few;
-      unnamed = ap (none_from i.cores) is ∙ dealt_none i.cores (live_of i.table) i.few;
-      lasts = going_on (clock_of i.table) i.table.clocked (λ e. omega (arith, c.if-tick.false, tick.answer, e));
+      named = dealt_fits (length (figures_of i)) (live_of i.table) (few i) c.picks.result names;
+      lasts = going_on (clock_of i.table) (omega (arith, c.clock-tick.ensures.answer, c.clock-tick.ensures.high)) (λ e. omega (arith, c.if-tick.false, c.clock-tick.ensures.answer, e));
     }
 
-pub returns : goal.returns
-returns c =
+pub returns-clause-next : goal.returns-clause-next
+returns-clause-next c =
     let i = c.args.self.now in
     let tick = c.clock-tick.ensures.answer in
-    record {
-      next = follows_answered i _ _ _ _ _ (deal_done (bare 0 i) (view i) c.if-self.false (λ e. omega (arith, c.if-tick.false, tick, e))) (ap Dealt tick) (record { clock = refl; live = refl; ledger = refl; given = refl; out = refl; names = ap (take i.cores) c.picks-self.ensures ∙ dealt_take i.cores (live_of i.table) i.few ∙ ap (λ n. picks n (live_of i.table)) (sym (figures_long i)) }) refl refl;
-      kept = λ e. absurd (false≢true e);
-    }
+    let names = c.picks.ensures ∙ ap (λ n. dealt n (live_of i.table)) c.len.ensures.value in
+    follows_answered i _ _ _ _ _ (deal_done (bare 0 i) (view i) c.in_ok-check_settled.ensures (λ e. omega (arith, c.if-tick.false, tick, e))) (ap Dealt tick) (record { clock = refl; live = refl; ledger = refl; given = refl; out = refl; names = ap (take (length (figures_of i))) names ∙ dealt_take (length (figures_of i)) (live_of i.table) (few i) }) refl refl

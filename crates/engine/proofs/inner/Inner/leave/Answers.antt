@@ -1,41 +1,41 @@
-use Rattle.std.proofs.Common.{is_err, sym, refl, ap, ◌∙◌}
-use Rattle.std.proofs.lemmas.Bool.{false≢true}
-use Rattle.terms.specs.declared.refusals.Refusal.TheVariants.{RoundOut, NoReservation}
+use Rattle.std.proofs.Common.{refl, ap, ◌∙◌, arith}
+use Rattle.std.proofs.lemmas.Grind.{common_steps}
 use Rattle.rules.specs.Lists.{without}
+use Rattle.rules.specs.Calls.{leave}
 use Rattle.table.specs.View.{live_of}
-use Rattle.rules.specs.Calls.{refused}
-use Rattle.engine.specs.Answers.{departed}
+use Rattle.engine.specs.Answers.{departure_said}
 use Rattle.engine.specs.View.{view}
-use Rattle.engine.proofs.Following.{follows_refused, refused_alike, follows_answered}
-use Rattle.engine.proofs.Departing.{departure_refused, departure_done, leave_out, leave_none, leave_full, leave_done, departs_shown}
+use Rattle.engine.proofs.Following.{follows_handed, follows_answered}
+use Rattle.engine.proofs.Departing.{departure_done, departs_shown}
 use Rattle.engine.proofs.inner.Inner.leave.Goals as goal
 
-pub returns-then-self : goal.returns-then-self
-returns-then-self c =
-    let i = c.args.self.now in
-    record { next = follows_refused i _ RoundOut (leave_out (view i) c.args.number c.if-self.true); kept = λ _. refl }
+pub returns-in_err-check_settled-clause-next : goal.returns-in_err-check_settled-clause-next
+unfolding leave
+returns-in_err-check_settled-clause-next c =
+    let out = c.in_err-check_settled.ensures in
+    follows_handed departure_said _ _ _ _ _ c.from_residual.ensures.1 (grind (arith, common_steps)) refl
 
-pub returns-in_default : goal.returns-in_default
-returns-in_default c =
-    let i = c.args.self.now in
-    record { next = follows_refused i _ NoReservation (leave_none (view i) c.args.number c.if-self.false (sym c.find.ensures ∙ c.in_default.is)); kept = λ _. refl }
+pub returns-in_err-row-clause-next : goal.returns-in_err-row-clause-next
+unfolding leave
+returns-in_err-row-clause-next c =
+    let idle = c.in_ok-check_settled.ensures in
+    let none = c.in_err-row.ensures in
+    follows_handed departure_said _ _ _ _ _ c.from_residual-in_err-row.ensures.1 (grind (arith, common_steps)) refl
 
-pub returns-in-Err : goal.returns-in-Err
-returns-in-Err c =
-    let i = c.args.self.now in
-    let went = c.depart.ensures in
-    let found = sym c.find.ensures ∙ c.in-Some.is in
-    let full = departure_refused (view i) c.in-Some.row c.in-Err.refusal (ap departed (sym c.in-Err.is) ∙ went.next.answer) in
-    refused_alike i _ _ c.in-Err.refusal (leave_full (view i) c.args.number c.in-Some.row c.if-self.false found full.0 ∙ ap refused (sym full.1)) (went.kept (ap is_err c.in-Err.is))
+pub returns-in_err-departure-clause-next : goal.returns-in_err-departure-clause-next
+unfolding leave
+returns-in_err-departure-clause-next c =
+    let idle = c.in_ok-check_settled.ensures in
+    let row = c.in_ok-row.ensures in
+    let full = c.in_err-departure.ensures.next.answer in
+    follows_handed departure_said _ _ _ _ _ c.from_residual-in_err-departure.ensures.1 (grind (arith, common_steps)) (c.in_err-departure.ensures.kept refl)
 
-pub returns : goal.returns
-returns c =
+pub returns-clause-next : goal.returns-clause-next
+unfolding leave
+returns-clause-next c =
     let i = c.args.self.now in
-    let went = c.depart.ensures in
-    let found = sym c.find.ensures ∙ c.in-Some.is in
-    let done = departure_done (view i) c.in-Some.row c.in-Ok.departure (ap departed (sym c.in-Ok.is) ∙ went.next.answer) in
-    let rest = went.next.rest in
-    record {
-      next = follows_answered i _ _ _ _ _ (leave_done (view i) c.args.number c.in-Some.row c.if-self.false found done.0) done.1 (departs_shown i c.depart.new.self c.remove.new.self c.in-Some.row c.depart.result _ went.next (ap is_err c.in-Ok.is) c.if-self.false c.remove.ensures.clock (c.remove.ensures.live ∙ ap (λ t. without c.args.number (live_of t)) went.next.table)) rest.3 rest.4;
-      kept = λ e. absurd (false≢true e);
-    }
+    let idle = c.in_ok-check_settled.ensures in
+    let row = c.in_ok-row.ensures in
+    let went = c.in_ok-departure.ensures.next in
+    let done = departure_done (view i) c.in_ok-row.row c.in_ok-departure.departure went.answer in
+    follows_answered i _ _ _ _ _ (grind (arith, common_steps)) done.1 (departs_shown i c.depart.new.self c.remove.new.self c.in_ok-row.row _ _ went refl c.remove.ensures.clock (c.remove.ensures.live ∙ ap (λ t. without c.args.number (live_of t)) went.table)) went.rest.2 went.rest.3

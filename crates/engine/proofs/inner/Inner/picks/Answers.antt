@@ -1,6 +1,6 @@
-use Rattle.std.proofs.Common.{rules}
+use Rattle.std.proofs.Common.{ap, ◌∙◌}
 use Rattle.engine.proofs.Naming.{picks_eight}
 use Rattle.engine.proofs.inner.Inner.picks.Goals as goal
 
-pub returns-then-self : goal.returns-then-self
-returns-then-self c = let named = picks_eight c.args.self.now c.if-self.true in search rules
+pub returns : goal.returns
+returns c = ap (λ p. p.names) c.unwrap_or.ensures ∙ picks_eight c.args.self.now

@@ -5,4 +5,4 @@ use Rattle.engine.proofs.inner.Inner.rooms.Given as goal
 
 abbrev pub invariant-loop-core : goal.invariant-loop-core
 invariant-loop-core l =
-    (length l.rooms ≡ 8) × (take l.core l.rooms ≡ take l.core (rooms (bare l.whole l.self) (view l.self)))
+    (length l.rooms.items ≡ l.core) × (l.rooms.items ≡ take l.core (rooms (bare l.whole.parts l.self) (view l.self)))

@@ -1,16 +1,18 @@
-use Rattle.std.proofs.Common.{arith}
-use Rattle.rules.specs.declared.types.Entry.{Entry}
-use Rattle.ledger.specs.Lapses.{counted_parts}
-use Rattle.ledger.proofs.Sums.{total_more}
+use Rattle.std.proofs.Common.{◌∙◌, rules, tests}
+use Rattle.std.proofs.lemmas.Iterator.{YieldsList-from_slice, YieldsList-from_map}
+use Rattle.std.proofs.lemmas.Iterator.Consumers.{YieldsList-at, YieldsList-from_filter, sum_from_yields_List}
+use Rattle.ledger.specs.Entries.{entries}
+use Rattle.ledger.specs.Lapses.{counts}
+use Rattle.ledger.proofs.Sums.{counted_sum}
 use Rattle.ledger.proofs.departed.Ledger.departed.Goals as goal
 
--- what a read past the places would give
-blank : Entry
-blank = record { lapse = 0; number = 0; core = 0; parts = 0 }
-
-pub loop-i-preserved : goal.loop-i-preserved
-unfolding blank
-loop-i-preserved c =
-    let l = c.args.self.now in
-    let more = total_more (counted_parts c.args.clock c.args.core) l.places c.loop-i.i blank (omega (arith, l.long, l.within)) in
-    (omega (arith, c.counted.ensures), omega arith)
+pub returns : goal.returns
+returns c =
+    sum_from_yields_List c.map.result c.sum.result c.sum.ensures.ran
+    (YieldsList-from_map _ (λ e. e.parts)
+    (YieldsList-at c.map.ensures.source
+    (YieldsList-from_filter _ (counts c.args.clock c.args.core)
+    (YieldsList-at c.filter.ensures.source (YieldsList-from_slice (entries c.args.self.now) cc))
+    c.filter.ensures.closure (λ x r q k. search (rules, tests))))
+    c.map.ensures.closure (λ x r q k. search (rules, tests)))
+    ∙ counted_sum c.args.clock c.args.core (entries c.args.self.now)
