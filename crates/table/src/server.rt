@@ -1,7 +1,7 @@
 // The constant bandwidth server of one reservation.
-ghost use Rattle.std.specs.Prelude.{◌≡◌, ◌-◌, ◌≤◌, true};
+ghost use Rattle.std.specs.Prelude.{◌≡◌, ◌≤◌, true};
 ghost use Rattle.rules.specs.Setup.{last_tick};
-ghost use Rattle.rules.specs.Server.{charged, filled_to, is_behind, is_name, is_ready, is_spent, keeps, lapse as lapse_tick, wanting, woken};
+ghost use Rattle.rules.specs.Server.{charged, filled_to, is_behind, is_ready, keeps, lapse as lapse_tick, wanting, woken};
 ghost use Rattle.table.specs.Events.{verdict, after_event};
 ghost use Rattle.table.specs.Rows.{fit};
 

@@ -1,13 +1,12 @@
 // One core's ready queue.
 ghost use Rattle.std.specs.Prelude.{◌≡◌, ◌<◌, [], length};
-ghost use Rattle.calendar.specs.Places.{held};
-ghost use Rattle.calendar.specs.Queues.{filed, first, queue, without};
+ghost use Rattle.calendar.specs.Queues.{filed, first, without};
 ghost use Rattle.rules.specs.System.{live_limit};
 ghost use Rattle.table.specs.Keys.{waiting};
-ghost use Rattle.table.specs.Order.{ahead, no_later};
+ghost use Rattle.table.specs.Order.{no_later};
 
 use super::{Key, Queue};
-use calendar::{Calendar, Order};
+use calendar::Calendar;
 use rules::LIVE_LIMIT;
 
 impl Queue {

@@ -1,8 +1,7 @@
 // What the calls share: the place of a reservation, another row in its place, and an event on it.
-ghost use Rattle.std.specs.Prelude.{◌≡◌, ◌<◌, true, length, slice_set, is_err};
+ghost use Rattle.std.specs.Prelude.{◌≡◌, ◌<◌, true, length, is_err, ◌==◌, slice_set};
 ghost use Rattle.std.specs.List.{position};
 ghost use Rattle.std.specs.Option.{ok_or};
-ghost use Rattle.std.specs.Prelude.{◌==◌};
 ghost use Rattle.rules.specs.declared.types.Reservation.{Reservation};
 ghost use Rattle.terms.specs.declared.refusals.Refusal.TheVariants.{NoReservation};
 ghost use Rattle.table.specs.Calls.{event_answer, event_live};
