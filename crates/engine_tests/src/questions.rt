@@ -39,15 +39,13 @@ fn shows<M: Measure, P: Policy>(
     engine: &Engine<M, P>,
     cores: &[Core],
 ) -> Result<(), Fail> {
-    let mut core = 0;
-    for &(bound, live, departed, name) in cores {
+    for (core, &(bound, live, departed, name)) in (0..).zip(cores) {
         assert_eq!(rt;
             asked(engine, core),
             (Ok(bound), Ok(live), Ok(departed), Ok(name))
         );
-        core = core.wrapping_add(1);
     }
-    for missing in [core, 8, u32::MAX] {
+    for missing in [u32::try_from(cores.len())?, 8, u32::MAX] {
         assert_eq!(rt; asked(engine, missing), NO_CORE);
     }
     assert_eq!(rt; engine.cores(), cores.len());

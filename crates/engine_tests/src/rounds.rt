@@ -53,10 +53,7 @@ fn refuses<M: Measure + Drop, P: Policy + Drop, N: Measure + Drop, Q: Policy + D
 
 // The ticks that reservation 1 has run.
 fn ran<M: Measure + Drop, P: Policy + Drop>(trial: &Trial<M, P>) -> Option<u32> {
-    match trial.engine().reservation(1) {
-        Ok(row) => Some(row.ran),
-        Err(_) => None,
-    }
+    trial.engine().reservation(1).ok().map(|row| row.ran)
 }
 
 #[test]

@@ -4,38 +4,25 @@ use engine::{Observer, Step};
 use rules::Answer::*;
 use rules::Call::*;
 use rules::{Answer, Call};
+use std::alloc::{AllocError, Global};
 use std::process::Abort;
 use std::test::*;
 
-// The first calls told, how many there were, how many deals named somebody for core 0, and the deals in all.
+// The calls told, or that memory failed; how many deals named somebody for core 0, and the deals in all.
 #[derive(Drop)]
 struct Log {
-    told: [Option<Row>; 12],
-    calls: usize,
+    told: Result<Vec<Row>, AllocError>,
     named: u32,
     deals: u32,
 }
 
 impl Log {
-    fn new() -> Log {
+    fn new(heap: Global) -> Log {
         Log {
-            told: [None; 12],
-            calls: 0,
+            told: Ok(Vec::new(heap)),
             named: 0,
             deals: 0,
         }
-    }
-
-    // It was told these rows and no others.
-    fn holds(&self, rt: &impl Abort, rows: &[Row]) -> Result<(), Fail> {
-        assert_eq!(rt; self.calls, rows.len());
-        let mut place = 0;
-        for &row in rows {
-            assert!(rt; place < 12);
-            assert_eq!(rt; self.told[place], Some(row));
-            place += 1;
-        }
-        Ok(())
     }
 }
 
@@ -43,10 +30,11 @@ impl Observer for Log {
     ghost shows = { λ _ _. Unit {0} };
 
     fn said(&mut self, tick: u32, call: Call, answer: Answer) {
-        if self.calls < 12 {
-            self.told[self.calls] = Some((tick, call, answer));
+        if let Ok(told) = &mut self.told
+            && told.push((tick, call, answer)).is_err()
+        {
+            self.told = Err(AllocError);
         }
-        self.calls = self.calls.saturating_add(1);
     }
 
     fn dealt(&mut self, names: &[Option<u32>]) {
@@ -87,28 +75,41 @@ const fn after(rounds: u32, call: Call) -> Step {
 
 // The script's calls, each a step of its own.
 fn scripted() -> [Step; 11] {
-    let mut steps = [after(0, Deal); 11];
-    for i in 0..11 {
-        steps[i] = after(0, SCRIPT[i].1);
-    }
-    steps
+    SCRIPT.map(|(_, call, _)| after(0, call))
 }
 
-// Runs the steps on one core: what is told, how many deals there are and how many of them name somebody, whether all was done, and calls
-// made afterwards.
-fn runs(
-    rt: &impl Abort,
+// A run on one core: its start and its steps, what is told, how many deals there are and how many of them name somebody, whether all was done,
+// and calls made afterwards.
+#[derive(Clone, Copy)]
+struct Run<'a> {
     start: u32,
-    steps: &[Step],
-    told: &[Row],
-    ended: (u32, u32, bool),
-    afterwards: &[Row],
-) -> Result<(), Fail> {
-    let mut log = Log::new();
-    let (mut trial, complete) = Trial::after(Rounded, FirstFit, &[1000], start, steps, &mut log)?;
-    log.holds(rt, told)?;
-    assert_eq!(rt; (log.deals, log.named, complete), ended);
-    trial.play(rt, afterwards)
+    steps: &'a [Step],
+    told: &'a [Row],
+    deals: u32,
+    named: u32,
+    complete: bool,
+    afterwards: &'a [Row],
+}
+
+impl Run<'_> {
+    fn goes(self, rt: &impl Abort, heap: Global) -> Result<(), Fail> {
+        let mut log = Log::new(heap);
+        let (mut trial, complete) = Trial::after(
+            Rounded,
+            FirstFit,
+            &[1000],
+            self.start,
+            self.steps,
+            &mut log,
+        )?;
+        let told = log.told?;
+        assert_eq!(rt; told.as_slice(), self.told);
+        assert_eq!(rt;
+            (log.deals, log.named, complete),
+            (self.deals, self.named, self.complete)
+        );
+        trial.play(rt, self.afterwards)
+    }
 }
 
 #[test]
@@ -120,7 +121,16 @@ fn a_script_by_calls(rt: HostRuntime) -> Result<(), Fail> {
 
 #[test]
 fn a_script_by_a_run(rt: HostRuntime) -> Result<(), Fail> {
-    runs(&rt, 5, &scripted(), &SCRIPT, (2, 1, true), &LAST)
+    let run = Run {
+        start: 5,
+        steps: &scripted(),
+        told: &SCRIPT,
+        deals: 2,
+        named: 1,
+        complete: true,
+        afterwards: &LAST,
+    };
+    run.goes(&rt, rt.alloc())
 }
 
 const END: u32 = 4_000_000_000;
@@ -128,11 +138,10 @@ const END: u32 = 4_000_000_000;
 // The calls after the end are not made.
 #[test]
 fn a_run_to_the_end_of_the_clock(rt: HostRuntime) -> Result<(), Fail> {
-    runs(
-        &rt,
-        3_999_999_998,
-        &[after(1, Admit(1, 2)), after(3, Wake(1)), after(0, Leave(1))],
-        &[
+    let run = Run {
+        start: 3_999_999_998,
+        steps: &[after(1, Admit(1, 2)), after(3, Wake(1)), after(0, Leave(1))],
+        told: &[
             (3_999_999_998, Deal, Dealt(3_999_999_998)),
             (3_999_999_998, Settle(3_999_999_998), Clock(3_999_999_999)),
             (3_999_999_999, Admit(1, 2), Placed(1, 0)),
@@ -140,18 +149,20 @@ fn a_run_to_the_end_of_the_clock(rt: HostRuntime) -> Result<(), Fail> {
             (3_999_999_999, Settle(3_999_999_999), Clock(END)),
             (END, Deal, Refused(Refusal::ClockEnd)),
         ],
-        (2, 0, false),
-        &[(END, Rest(1), Refused(Refusal::Resting))],
-    )
+        deals: 2,
+        named: 0,
+        complete: false,
+        afterwards: &[(END, Rest(1), Refused(Refusal::Resting))],
+    };
+    run.goes(&rt, rt.alloc())
 }
 
 #[test]
 fn a_run_up_to_a_round_in_hand(rt: HostRuntime) -> Result<(), Fail> {
-    runs(
-        &rt,
-        4,
-        &[after(2, Deal), after(1, Admit(1, 2))],
-        &[
+    let run = Run {
+        start: 4,
+        steps: &[after(2, Deal), after(1, Admit(1, 2))],
+        told: &[
             (4, Deal, Dealt(4)),
             (4, Settle(4), Clock(5)),
             (5, Deal, Dealt(5)),
@@ -159,20 +170,22 @@ fn a_run_up_to_a_round_in_hand(rt: HostRuntime) -> Result<(), Fail> {
             (6, Deal, Dealt(6)),
             (6, Deal, Refused(Refusal::RoundOut)),
         ],
-        (3, 0, false),
-        &LAST,
-    )
+        deals: 3,
+        named: 0,
+        complete: false,
+        afterwards: &LAST,
+    };
+    run.goes(&rt, rt.alloc())
 }
 
 // Nothing is told of an engine that is not made.
 #[test]
 fn a_run_of_no_engine(rt: HostRuntime) -> Result<(), Fail> {
     for (figure, start, number) in [(0, 0, 2), (1001, END, 2), (1000, 4_000_000_001, 3)] {
-        let mut log = Log::new();
-        match Trial::after(Rounded, FirstFit, &[figure], start, &scripted(), &mut log) {
-            Ok(_) => return Err(Fail::new("made")),
-            Err(refusal) => assert_eq!(rt; (refusal.number(), log.calls), (number, 0)),
-        }
+        let mut log = Log::new(rt.alloc());
+        let made = Trial::after(Rounded, FirstFit, &[figure], start, &scripted(), &mut log);
+        assert_eq!(rt; made.err().map(Refusal::number), Some(number));
+        assert_eq!(rt; log.told?.len(), 0);
     }
     Ok(())
 }

@@ -100,10 +100,8 @@ fn places<M: Measure + Drop, P: Policy + Drop>(
     cores: [u32; 8],
 ) -> Result<(), Fail> {
     let mut trial = Trial::new(measure, policy, &[700, 1000, 500], 0)?;
-    let mut number = 1;
-    for core in cores {
+    for (number, core) in (1..).zip(cores) {
         trial.play(rt, &[(0, Admit(60, 240), Placed(number, core))])?;
-        number = number.wrapping_add(1);
     }
     trial.play(rt, &[(0, Admit(60, 240), Refused(Refusal::NoRoom))])
 }

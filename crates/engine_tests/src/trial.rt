@@ -1,7 +1,6 @@
 // An engine with the round in hand, none where none is out. A trial that is let go settles its round.
-ghost use Rattle.std.specs.Prelude.{◌≡◌, true};
 ghost use Rattle.engine.specs.Engines.{shown};
-ghost use Rattle.engine_tests.specs.Hands.{holds};
+ghost use Rattle.engine.specs.Along.{InHand, InHand-prop};
 
 use engine::{Engine, Round};
 use measure::Measure;
@@ -10,17 +9,14 @@ use policy::Policy;
 pub struct Trial<M: Measure + Drop, P: Policy + Drop> {
     engine: Engine<M, P>,
     hand: Option<Round>,
-    ghost held: { holds hand (shown engine) ≡ true },
+    ghost held: { InHand hand (shown engine) } by { InHand-prop hand (shown engine) },
 }
 
 impl<M: Measure + Drop, P: Policy + Drop> Drop for Trial<M, P> {
     fn drop(self) {
         let Trial { mut engine, hand } = self;
         if let Some(round) = hand {
-            match engine.settle(round) {
-                Ok(_) => {}
-                Err(_) => unreachable(),
-            }
+            let _ = engine.settle(round).unwrap();
         }
     }
 }

@@ -1,55 +1,20 @@
 // Makings, runs and calls of a trial.
 use super::Trial;
-use engine::{Awake, Departure, Engine, Finish, Observer, Placement, Step, Unmade, Unsettled, run};
+use engine::{Departure, Engine, Finish, Observer, Step, Unsettled, run};
 use measure::Measure;
 use policy::Policy;
 use rules::{Answer, Call};
 use std::mem::swap;
 use terms::Refusal;
 
-fn placed(res: Result<Placement, Refusal>) -> Answer {
-    match res {
-        Ok(placement) => Answer::Placed(placement.number, placement.core),
-        Err(refusal) => Answer::Refused(refusal),
-    }
-}
-
-fn awake(res: Result<Awake, Refusal>) -> Answer {
-    match res {
-        Ok(woken) => Answer::Awake(woken.state, woken.deadline),
-        Err(refusal) => Answer::Refused(refusal),
-    }
-}
-
-fn left(res: Result<u32, Refusal>) -> Answer {
-    match res {
-        Ok(budget) => Answer::Left(budget),
-        Err(refusal) => Answer::Refused(refusal),
-    }
-}
-
-fn departed(res: Result<Departure, Refusal>) -> Answer {
-    match res {
-        Ok(departure) => departure.until.map_or(Answer::Free, Answer::Until),
-        Err(refusal) => Answer::Refused(refusal),
-    }
-}
-
-fn refusal_of<M: Drop, P: Drop>(unmade: Unmade<M, P>) -> Refusal {
-    let Unmade {
-        refusal,
-        measure: _,
-        policy: _,
-    } = unmade;
-    refusal
+fn departed(departure: Departure) -> Answer {
+    departure.until.map_or(Answer::Free, Answer::Until)
 }
 
 impl<M: Measure + Drop, P: Policy + Drop> Trial<M, P> {
     pub fn new(measure: M, policy: P, figures: &[u32], start: u32) -> Result<Trial<M, P>, Refusal> {
-        match Engine::new(measure, policy, figures, start) {
-            Ok(engine) => Ok(Trial { engine, hand: None }),
-            Err(unmade) => Err(refusal_of(unmade)),
-        }
+        let engine = Engine::new(measure, policy, figures, start).map_err(|u| u.refusal)?;
+        Ok(Trial { engine, hand: None })
     }
 
     // The engine and the round that a run of these steps hands back, and whether it was complete.
@@ -61,22 +26,16 @@ impl<M: Measure + Drop, P: Policy + Drop> Trial<M, P> {
         steps: &[Step],
         observer: &mut O,
     ) -> Result<(Trial<M, P>, bool), Refusal> {
-        match run(measure, policy, figures, start, steps, observer) {
-            Ok(
-                Finish {
-                    engine,
-                    round,
-                    complete,
-                },
-            ) => {
-                let trial = Trial {
-                    engine,
-                    hand: round,
-                };
-                Ok((trial, complete))
-            }
-            Err(unmade) => Err(refusal_of(unmade)),
-        }
+        let Finish {
+            engine,
+            round,
+            complete,
+        } = run(measure, policy, figures, start, steps, observer).map_err(|u| u.refusal)?;
+        let trial = Trial {
+            engine,
+            hand: round,
+        };
+        Ok((trial, complete))
     }
 
     // The engine, to be asked questions.
@@ -86,39 +45,42 @@ impl<M: Measure + Drop, P: Policy + Drop> Trial<M, P> {
 
     // Makes a call, with the round in hand where it is a settle. A settle of a round that is not in hand is refused with no engine asked.
     pub fn perform(&mut self, call: Call) -> Answer {
+        self.make(call).unwrap_or_else(Answer::Refused)
+    }
+
+    fn make(&mut self, call: Call) -> Result<Answer, Refusal> {
         match call {
-            Call::Admit(budget, period) => placed(self.engine.admit(budget, period)),
-            Call::Wake(number) => awake(self.engine.wake(number)),
-            Call::Rest(number) => left(self.engine.rest(number)),
-            Call::Leave(number) => departed(self.engine.leave(number)),
-            Call::Move(number, core) => departed(self.engine.migrate(number, core)),
-            Call::Deal => self.deal(),
-            Call::Settle(tick) => self.settle(tick),
+            Call::Admit(budget, period) => {
+                let placement = self.engine.admit(budget, period)?;
+                Ok(Answer::Placed(placement.number, placement.core))
+            }
+            Call::Wake(number) => {
+                let woken = self.engine.wake(number)?;
+                Ok(Answer::Awake(woken.state, woken.deadline))
+            }
+            Call::Rest(number) => Ok(Answer::Left(self.engine.rest(number)?)),
+            Call::Leave(number) => Ok(departed(self.engine.leave(number)?)),
+            Call::Move(number, core) => Ok(departed(self.engine.migrate(number, core)?)),
+            Call::Deal => Ok(Answer::Dealt(self.deal()?)),
+            Call::Settle(tick) => Ok(Answer::Clock(self.settle(tick)?)),
         }
     }
 
     // The tick of a round cannot be read: it is the clock's.
-    fn deal(&mut self) -> Answer {
-        match self.engine.deal() {
-            Ok(round) => match self.hand.replace(round) {
-                None => Answer::Dealt(self.engine.clock()),
-                Some(_) => unreachable(),
-            },
-            Err(refusal) => Answer::Refused(refusal),
+    fn deal(&mut self) -> Result<u32, Refusal> {
+        let round = self.engine.deal()?;
+        match self.hand.replace(round) {
+            None => Ok(self.engine.clock()),
+            Some(_) => unreachable(),
         }
     }
 
-    fn settle(&mut self, tick: u32) -> Answer {
+    fn settle(&mut self, tick: u32) -> Result<u32, Refusal> {
         if tick != self.engine.clock() {
-            return Answer::Refused(Refusal::WrongRound);
+            return Err(Refusal::WrongRound);
         }
-        match self.hand.take() {
-            None => Answer::Refused(Refusal::WrongRound),
-            Some(round) => match self.engine.settle(round) {
-                Ok(clock) => Answer::Clock(clock),
-                Err(_) => unreachable(),
-            },
-        }
+        let round = self.hand.take().ok_or(Refusal::WrongRound)?;
+        Ok(self.engine.settle(round).unwrap())
     }
 
     // Settles the round in hand on the engine of another trial, and says what that answers; none where no round is in hand. Where it is
@@ -127,10 +89,7 @@ impl<M: Measure + Drop, P: Policy + Drop> Trial<M, P> {
         &mut self,
         other: &mut Trial<N, Q>,
     ) -> Option<Answer> {
-        let Some(round) = self.hand.take() else {
-            return None;
-        };
-        match other.engine.settle(round) {
+        match other.engine.settle(self.hand.take()?) {
             Ok(clock) => {
                 swap(&mut self.hand, &mut other.hand);
                 Some(Answer::Clock(clock))

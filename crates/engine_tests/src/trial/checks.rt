@@ -58,7 +58,6 @@ impl<M: Measure + Drop, P: Policy + Drop> Trial<M, P> {
         assert_eq!(rt; (before.clock, call, told), (tick, call, answer));
         if let Answer::Refused(_) = told {
             assert_eq!(rt; self.picture(), before);
-            return Ok(());
         }
         Ok(())
     }

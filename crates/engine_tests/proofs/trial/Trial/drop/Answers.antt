@@ -1,9 +1,9 @@
-use Rattle.std.proofs.Common.{sym, ap, ◌∙◌}
+use Rattle.std.proofs.Common.{subst}
 use Rattle.engine.specs.Engines.{shown}
-use Rattle.engine_tests.specs.Hands.{holds}
-use Rattle.engine_tests.proofs.Hands.{refused_never}
+use Rattle.engine.specs.Along.{InHand}
+use Rattle.engine_tests.proofs.Hands.{settle_taken}
 use Rattle.engine_tests.proofs.trial.Trial.drop.Goals as goal
 
-pub unreachable-requires : goal.unreachable-requires
-unreachable-requires g c =
-    refused_never _ _ _ c.in-Some.round c.in-Err.field-0.refusal c.in-Err.ensures.next (ap (λ h. holds h (shown c.args.self.engine)) (sym c.in-Some.is) ∙ c.args.self.held)
+pub unwrap-requires : goal.unwrap-requires
+unwrap-requires g c =
+    settle_taken c.in-Some.round c.settle.result c.settle.ensures.next (subst (λ h. InHand h (shown c.args.self.engine)) c.in-Some.is c.args.self.held)
