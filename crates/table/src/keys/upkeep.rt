@@ -9,6 +9,7 @@ use super::{Key, Queue};
 use calendar::Calendar;
 use rules::LIVE_LIMIT;
 
+#[tactic(auto, unfolding(crate::specs::Keys::waiting))]
 impl Queue {
     pub fn new() -> Queue
         ensures { waiting result ≡ [] }

@@ -1,13 +1,10 @@
-use Rattle.std.proofs.Common.{get_or, set, refl, ap, ◌∙◌, arith}
+use Rattle.std.proofs.Common.{get_or, set, ap, ◌∙◌, arith}
 use Rattle.std.proofs.lemmas.List.{get_or_default}
 use Rattle.std.proofs.lemmas.List.Edits.{map_over_more}
 use Rattle.table.specs.Calls.{ticked}
 use Rattle.table.proofs.Turns.{all_over, at_over}
 use Rattle.table.proofs.Ties.{room_less, tied_next}
 use Rattle.table.proofs.passing.Tick.pass_rows.Goals as goal
-
-pub loop-row-init : goal.loop-row-init
-loop-row-init c = record { passed = refl; tied = c.requires.tied }
 
 pub pass_row-requires-clause-fits : goal.pass_row-requires-clause-fits
 pass_row-requires-clause-fits c =
@@ -29,6 +26,3 @@ loop-row-preserved c =
 pub returns-clause-rows : goal.returns-clause-rows
 returns-clause-rows c =
     all_over (ticked c.args.self.now.picks.now.names c.args.self.now.clock) c.args.rows.now c.loop-row.row-items c.loop-row.row-index c.loop-row.invariant.passed (omega arith)
-
-pub returns-clause-tied : goal.returns-clause-tied
-returns-clause-tied c = c.loop-row.invariant.tied
