@@ -8,6 +8,5 @@ pub mod Naming
 pub mod Calling
 pub mod Drives
 pub mod Running
-pub mod Filled
 pub mod Rounds
 pub mod Departing

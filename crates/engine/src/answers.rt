@@ -10,7 +10,7 @@ pub struct Placement {
 }
 
 // A reservation just woken: its state and its deadline.
-#[derive(Clone, Copy, Debug, PartialEq)]
+#[derive(Clone, Copy, Debug, PartialEq, Eq)]
 pub struct Awake {
     pub state: State,
     pub deadline: u32,

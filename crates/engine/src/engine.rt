@@ -1,4 +1,4 @@
-// The engine over any measure and any policy.
+// The engine over any measure and any policy. What asks for neither is done by its figures, so that it is proved once for all of them.
 use crate::inner::Inner;
 
 #[derive(Drop)]

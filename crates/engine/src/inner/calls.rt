@@ -92,7 +92,8 @@ impl Inner {
                 // A round is dealt only before the last tick.
                 let clock = self.table.tick(picks).unwrap();
                 self.ledger.purge(clock);
-                self.round = None;
+                // A None written in its place would be made in full at each call, settled or refused.
+                self.round.take();
                 Ok(clock)
             }
             _ => Err(Unsettled {

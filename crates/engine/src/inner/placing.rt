@@ -1,5 +1,5 @@
 // The calls on the engine's figures that place a reservation on a core. The whole is the measure's.
-ghost use Rattle.std.specs.Prelude.{◌≡◌, ◌<◌, ◌≤◌, true, length, is_err, None, Some, MatchResult};
+ghost use Rattle.std.specs.Prelude.{◌≡◌, ◌<◌, true, length, is_err, None, Some, MatchResult};
 ghost use Rattle.rules.specs.Calls.{move, admitted, with_newcomer};
 ghost use Rattle.rules.specs.Parts.{bound, room, rooms};
 ghost use Rattle.engine.specs.Answers.{departed};
@@ -8,7 +8,7 @@ ghost use Rattle.engine.specs.View.{view, figures_of, bare, closed_by, Follows};
 use super::{Inner, Whole};
 use crate::answers::{Departure, Placement};
 use arrayvec::ArrayVec;
-use rules::{LAST_NUMBER, LIVE_LIMIT, MOST_CORES};
+use rules::{LAST_NUMBER, LIVE_LIMIT, MOST_CORES, WHOLE_FIGURE};
 use table::is_behind;
 use terms::{Refusal, Terms};
 
@@ -66,6 +66,7 @@ impl Inner {
     pub fn rooms(&self, whole: Whole) -> ArrayVec<u32, MOST_CORES>
         ensures { result.items ≡ rooms (bare whole.parts self.now) (view self.now) }
     {
+        // Pushed one by one, since to collect or to extend may fail, and these never do.
         let mut rooms = ArrayVec::new();
         for core in 0..self.figures.len() {
             rooms.push(self.room(core, whole));
@@ -90,6 +91,6 @@ impl Inner {
         requires { core < length (figures_of self.now) }
         ensures { result ≡ bound (bare whole.parts self.now) core }
     {
-        (whole.parts() as u64 * self.figures[core] as u64 / 1000) as u32
+        (whole.parts() as u64 * self.figures[core] as u64 / WHOLE_FIGURE as u64) as u32
     }
 }

@@ -33,8 +33,8 @@ returns-in-Some-clause-next c =
       live = told.live ∙ tick_live_lem _ t _ going ∙ ticked_same n (t + 1) c.in-Some.picks.names (live_of i.table) unnamed ∙ ap (λ p. map (λ r. refilled (t + 1) (charged_if (names_out n p) r)) (live_of i.table)) (sym c.in-Some.is);
       ledger = c.purge.ensures ∙ ap (λ m. queue lapses_first (purged m (entries i.ledger))) later;
       given = refl;
-      out = refl;
-      names = refl;
+      out = ap is_some c.take.ensures.after;
+      names = ap (names_out n) c.take.ensures.after;
     }) refl refl
 
 pub returns-in_default-clause-next : goal.returns-in_default-clause-next
