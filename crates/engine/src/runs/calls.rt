@@ -68,6 +68,7 @@ impl<M: Measure, P: Policy> Runner<M, P> {
     {
         let round = self.engine.deal()?;
         let tick = round.tick;
+        // A round that was in hand could not be let go, but none was.
         match self.hand.replace(round) {
             None => Ok(tick),
             Some(_) => unreachable(),
