@@ -1,5 +1,5 @@
 -- A plan's steps leave no round out: its calls neither deal nor settle, and its rounds are settled.
-use Rattle.std.proofs.Common.{◌≡◌, ℕ, suc, Bool, true, false, cond, List, [], ◌∷◌, ◌++◌, map, length, Option, sym, refl, ap, ◌∙◌, ⊎_elim, append_assoc, append-nil}
+use Rattle.std.proofs.Common.{◌≡◌, ℕ, suc, Bool, true, false, cond, List, [], ◌∷◌, ◌++◌, map, length, None, Option, sym, refl, ap, ◌∙◌, ⊎_elim, append_assoc, append-nil}
 use Rattle.std.proofs.lemmas.Bool.{cases_eq}
 use Rattle.rules.specs.declared.types.Call.{Call}
 use Rattle.rules.specs.declared.types.Call.TheVariants.{Admit, Wake, Rest, Leave, Move, Deal, Settle}
@@ -10,35 +10,13 @@ use Rattle.rules.specs.System.{System, fresh}
 use Rattle.rules.specs.Calls.{Outcome, answered, with_round, deal}
 use Rattle.rules.specs.Dealing.{picks}
 use Rattle.rules.specs.Replay.{state_after, is_accepted, next, after, replay}
-use Rattle.rules.proofs.Steps.{Step as Accepted, admits, wakes, rests, leaves, moves, deals, settles, by_step}
 use Rattle.rules.proofs.Counts.{after_append}
+use Rattle.engine.proofs.Calling.{calm_hand}
 use Rattle.engine.proofs.Rounds.{deal_end, deal_done, settle_done}
 use Rattle.engine.specs.Driving.{before, stopped, round_on, rounds, own_call, course}
 use Rattle.plan.specs.declared.event.Kind.{Kind}
 use Rattle.plan.specs.Records.{Row}
 use Rattle.report.specs.Reports.{call_of, step_of}
-
--- Neither a deal nor a settle.
-abbrev Plain : Call → Type 0
-Plain (Admit q p) = Unit {0}
-Plain (Wake n) = Unit {0}
-Plain (Rest n) = Unit {0}
-Plain (Leave n) = Unit {0}
-Plain (Move n c) = Unit {0}
-Plain Deal = ⊥
-Plain (Settle t) = ⊥
-
-step_out : (s : Setup) (σ : System) (c : Call) (a : Answer) (σ' : System) → Plain c → Accepted s σ c a σ' → σ'.out ≡ σ.out
-step_out s σ c a σ' p (admits q p₁ parts core h₁ h₂ h₃ h₄ h₅ h₆) = refl
-step_out s σ c a σ' p (wakes n r h₁ h₂ h₃) = refl
-step_out s σ c a σ' p (rests n r h₁ h₂ h₃) = refl
-step_out s σ c a σ' p (leaves n r h₁ h₂ h₃) = refl
-step_out s σ c a σ' p (moves n core r h₁ h₂ h₃ h₄ h₅ h₆ h₇) = refl
-step_out s σ c a σ' p (deals h₁ h₂) = absurd p
-step_out s σ c a σ' p (settles tick h₁ h₂) = absurd p
-
-call_idle : (s : Setup) (σ : System) (c : Call) → Plain c → (next s σ c).out ≡ σ.out
-call_idle s σ c p = by_step s σ c (λ t a σ'. σ'.out ≡ σ.out) (λ n. refl) (λ a σ' h. step_out s σ c a σ' p h)
 
 -- A round that is dealt is settled.
 round_idle : (s : Setup) (σ : System) (names : List (Option ℕ)) (a : Answer) → deal s σ ≡ answered a (with_round σ names) → (round_on s σ).out ≡ false
@@ -61,11 +39,11 @@ rounds_idle s σ (suc k) idle =
 
 -- A step of a plan's event leaves no round out.
 own_idle : (s : Setup) (σ : System) (kind : Kind) (a b : ℕ) → σ.out ≡ false → (after s σ (own_call (call_of kind a b))).out ≡ false
-own_idle s σ Kind.Admit a b idle = call_idle s σ (Admit a b) tt ∙ idle
-own_idle s σ Kind.Wake a b idle = call_idle s σ (Wake a) tt ∙ idle
-own_idle s σ Kind.Rest a b idle = call_idle s σ (Rest a) tt ∙ idle
-own_idle s σ Kind.Leave a b idle = call_idle s σ (Leave a) tt ∙ idle
-own_idle s σ Kind.Move a b idle = call_idle s σ (Move a b) tt ∙ idle
+own_idle s σ Kind.Admit a b idle = calm_hand s σ (Admit a b) None tt idle
+own_idle s σ Kind.Wake a b idle = calm_hand s σ (Wake a) None tt idle
+own_idle s σ Kind.Rest a b idle = calm_hand s σ (Rest a) None tt idle
+own_idle s σ Kind.Leave a b idle = calm_hand s σ (Leave a) None tt idle
+own_idle s σ Kind.Move a b idle = calm_hand s σ (Move a b) None tt idle
 own_idle s σ Kind.End a b idle = idle
 
 -- After the steps of a plan's events no round is out.

@@ -1,4 +1,4 @@
-use Rattle.std.proofs.Common.{Some, sym, ◌∙◌, subst}
+use Rattle.std.proofs.Common.{sym, ◌∙◌, subst}
 use Rattle.engine.specs.Engines.{shown}
 use Rattle.engine.specs.Along.{InHand}
 use Rattle.engine.proofs.Calling.{settled_held}
