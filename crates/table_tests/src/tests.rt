@@ -31,7 +31,10 @@ fn sixty_four_are_live(rt: HostRuntime) -> Result<(), Fail> {
     let mut table = Table::new(7)?;
     let terms = Terms::new(1, 2)?;
     for number in 1..65 {
-        assert_eq!(rt; refusal(table.admit(number, terms, number, number % 8)), None);
+        assert_eq!(rt;
+            refusal(table.admit(number, terms, number, number % 8)),
+            None
+        );
     }
     assert_eq!(rt; table.len(), 64);
     assert_eq!(rt; refusal(table.admit(65, terms, 1, 0)), Some(15));
