@@ -4,7 +4,5 @@ pub mod Counts
 pub mod Sorted
 pub mod Bags
 pub mod Filters
-pub mod Rows
-pub mod Room
 pub mod Steps
 pub mod Least

@@ -17,6 +17,7 @@ impl Calendar {
         ensures written { places.new ≡ put_places x self.old places.old }
         ensures ordered { queue T.before (held self.new places.new) ≡ put_queue T.before x self.old places.old }
     {
+        // A test of its own, which comes before both writes.
         if self.count >= places.len() {
             return Err(Refusal::CalendarFull);
         }

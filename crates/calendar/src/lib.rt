@@ -19,7 +19,7 @@ pub trait Order: Copy {
 }
 
 // How many of the caller's places are held, from the front. The places are passed to each call.
-#[derive(Clone, Copy, Debug, Default, PartialEq, Eq)]
+#[derive(Clone, Copy)]
 pub struct Calendar {
     count: usize,
 }

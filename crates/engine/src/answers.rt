@@ -2,6 +2,8 @@
 use rules::State;
 use terms::Refusal;
 
+mod told;
+
 // A reservation just admitted: its number and its core.
 #[derive(Clone, Copy, Debug, PartialEq, Eq)]
 pub struct Placement {

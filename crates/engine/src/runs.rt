@@ -13,7 +13,7 @@ pub struct Step {
     pub call: Option<Call>,
 }
 
-// The end of a run: the engine, the round that is still out, and whether no deal of a round was refused.
+// The end of a run: the engine, the round that is still out, and whether no deal of a round was refused. A run that was cut off hands back the same things.
 pub struct Finish<M, P> {
     pub engine: Engine<M, P>,
     pub round: Option<Round>,

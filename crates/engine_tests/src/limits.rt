@@ -103,8 +103,6 @@ fn the_ledger_holds_128_entries(rt: HostRuntime) -> Result<(), Fail> {
     Ok(())
 }
 
-const END: u32 = 4_000_000_000;
-
 #[test]
 fn the_clock_ends(rt: HostRuntime) -> Result<(), Fail> {
     let mut trial = Trial::new(Rounded, FirstFit, &[1000], 3_999_999_999)?;

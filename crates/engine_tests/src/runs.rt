@@ -133,8 +133,6 @@ fn a_script_by_a_run(rt: HostRuntime) -> Result<(), Fail> {
     run.goes(&rt, rt.alloc())
 }
 
-const END: u32 = 4_000_000_000;
-
 // The calls after the end are not made.
 #[test]
 fn a_run_to_the_end_of_the_clock(rt: HostRuntime) -> Result<(), Fail> {

@@ -1,4 +1,5 @@
-// An engine with the round in hand, none where none is out. A trial that is let go settles its round.
+// An engine with the round in hand, none where none is out. A trial that is let go settles its round. It has the engine's public calls alone, so it makes them as a run
+// does but for the observer.
 ghost use Rattle.engine.specs.Engines.{shown};
 ghost use Rattle.engine.specs.Along.{InHand, InHand-prop};
 

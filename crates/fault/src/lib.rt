@@ -8,6 +8,9 @@ ghost use Rattle.fault.specs.Faults.{cause_number, layer_word, flaw_cause, plan_
 
 use std::{error, fmt};
 
+// The bytes of the longest plan.
+pub const LONGEST_PLAN: usize = 65_536;
+
 #[derive(Clone, Copy, PartialEq, Eq, Debug)]
 pub enum Cause {
     TooLong = 30,
@@ -94,6 +97,7 @@ impl From<Flaw> for Cause {
 }
 
 impl Cause {
+    // One cast of the enum; `From` would be a second way to the same.
     pub fn number(self) -> u8
         ensures { result ≡ cause_number self }
     {
@@ -102,6 +106,7 @@ impl Cause {
 }
 
 impl Layer {
+    // Public; `Display` writes it.
     pub fn word(self) -> &'static str
         ensures { result.now ≡ layer_word self }
     {
@@ -149,7 +154,7 @@ impl PlanFault {
     {
         match self {
             PlanFault::TooLong => Spot {
-                byte: 65_536,
+                byte: LONGEST_PLAN,
                 number: 0,
             },
             PlanFault::Trailing(at) => at,

@@ -22,6 +22,7 @@ pub enum Kind {
 }
 
 impl Kind {
+    // Public; `Display` writes it.
     pub fn word(self) -> &'static str
         ensures { result.now ≡ kind_word self }
     {
@@ -223,7 +224,7 @@ fn check_figure(input: Input, field: Field, n: u32, lacks: bool) -> Result<(), R
     input.check(!lacks || n == 0, Flaw::Range, field)
 }
 
-// Kind, gap and A of a record that may be cut short.
+// Kind, gap and A of a record that may be cut short; of a whole one `unpack` gives them.
 fn read_front(input: Input) -> Result<Front, RecordFault>
     ensures { told record_told result ≡ front_of input.entry.bytes.now input.entry.start }
 {
@@ -240,12 +241,10 @@ fn cut(input: Input) -> RecordFault
     requires { length input.bytes.now < 8 }
     ensures { Err (record_told result) ≡ event_of input.entry.bytes.now input.entry.start }
 {
-    match read_front(input) {
-        Err(fault) => fault,
-        Ok(_) => RecordFault::Bits(BitFault {
-            at: input.spot(B.at),
-        }),
-    }
+    let at = input.spot(B.at);
+    read_front(input)
+        .err()
+        .unwrap_or(RecordFault::Bits(BitFault { at }))
 }
 
 fn event_of<'a>(kind: Kind, figures: Figures, source: Source<'a>) -> Event<'a>

@@ -9,7 +9,7 @@ ghost use Rattle.plan.specs.Plans.{reader_of, unread, is_end, step_of, next_spot
 use crate::event::{Event, read_event};
 use crate::field::Input;
 use crate::header::{Header, read_fields};
-use fault::{PlanFault, Spot};
+use fault::{LONGEST_PLAN, PlanFault, Spot};
 
 // The bytes to come, none past the end record; the plan's length; the place of the first event.
 #[derive(Clone, Copy)]
@@ -26,7 +26,7 @@ pub fn read_header<'a>(bytes: &'a [u8]) -> Result<(Header, Events<'a>), PlanFaul
     ensures fresh { IfOk result (λ p. Fresh (reader_of p.1)) }
     ensures limits { IfOk result (λ p. IsWithinLimits p.0) }
 {
-    if bytes.len() > 65_536 {
+    if bytes.len() > LONGEST_PLAN {
         return Err(PlanFault::TooLong);
     }
     let (header, first) = read_fields(bytes)?;
@@ -73,6 +73,7 @@ impl<'a> Events<'a> {
         ensures answer { shown (option_map row_of) (told plan_told result) ≡ next_of (reader_of self.old) }
         ensures after { reader_of self.new ≡ after_of (reader_of self.old) }
     {
+        // Past the end the answer is none, and no error.
         let Some(input) = self.upcoming() else {
             return Ok(None);
         };

@@ -88,6 +88,7 @@ const PLAN_MARK: u32 = 0xCB5;
 
 const PLAN_EDITION: u32 = 1;
 
+// The engine's last tick, which the reader of plans does not know.
 const LATEST_START: u32 = 4_000_000_000;
 
 // The bit where the bound of core k starts; after those of all k cores the filling starts.
@@ -172,9 +173,7 @@ fn read_setup(bytes: &[u8]) -> Result<Setup, RecordFault>
     ensures { told record_told result ≡ setup_of bytes.now }
 {
     let input = Input::first(bytes);
-    let Some(cores) = Cores::new(input.read(CORES)?) else {
-        return Err(input.flawed(Flaw::Range, CORES));
-    };
+    let cores = Cores::new(input.read(CORES)?).ok_or(input.flawed(Flaw::Range, CORES))?;
     let measure = MeasureKind::from(input.read(MEASURE)? != 0);
     let unknown = input.flawed(Flaw::Range, POLICY);
     let policy = PolicyKind::try_from(input.read(POLICY)?).map_err(|_| unknown)?;

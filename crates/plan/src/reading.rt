@@ -48,8 +48,8 @@ impl fmt::Display for PlanError {
 
     fn fmt<W: fmt::Write>(&self, f: &mut fmt::Formatter<W>) -> fmt::Result {
         match self {
-            PlanError::Fault(plan_fault) => plan_fault.fmt(f),
-            PlanError::Memory => f.write_str("out of memory"),
+            Self::Fault(plan_fault) => plan_fault.fmt(f),
+            Self::Memory => f.write_str("out of memory"),
         }
     }
 }

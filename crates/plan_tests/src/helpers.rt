@@ -39,6 +39,7 @@ pub fn sample() -> [u8; 82] {
     plan
 }
 
+// One function for each layer, named for it; the causes are numbers, since these are tested.
 pub fn bits(byte: usize, number: usize) -> Told {
     Told {
         cause: 31,
@@ -101,6 +102,7 @@ pub fn put(bytes: &mut [u8], at: usize, width: usize, value: u32) {
     if at > 10_000 || width > 32 {
         return;
     }
+    // A bit has no element to go over.
     for k in 0..width {
         if (value >> (width - 1 - k)) % 2 == 1 {
             flip(bytes, at + k);

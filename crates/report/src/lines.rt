@@ -1,5 +1,5 @@
 // The lines of a report, in their order.
-ghost use Rattle.std.specs.Prelude.{◌≡◌, ◌<◌, ◌≤◌, ◌++◌, map, length, IfOk, OnOk};
+ghost use Rattle.std.specs.Prelude.{◌≡◌, ◌<◌, ◌++◌, map, length, IfOk, OnOk};
 ghost use Rattle.rules.specs.Parts.{live_parts, departed_parts};
 ghost use Rattle.engine.specs.Engines.{setup, shown};
 ghost use Rattle.plan.specs.Headers.{IsWithinLimits};
@@ -85,7 +85,7 @@ fn play<M: Measure + Drop, P: Policy + Drop>(
     close(notes.lines?, &engine, complete)
 }
 
-// The lines of a plan's contents, by the measure and the policy that its header names.
+// The lines of a plan's contents, by the measure and the policy that its header names. The kinds are another crate's, so that they are no measure and no policy themselves.
 fn play_plan(heap: Global, plan: &Plan) -> Result<Vec<Line>, AllocError>
     requires { IsWithinLimits plan.now.header }
     ensures { IfOk result (λ v. map line_text v.items ≡ content_lines (contents_of plan.now)) }
@@ -105,6 +105,7 @@ pub fn report(heap: Global, bytes: &[u8]) -> Result<Vec<Line>, AllocError>
     ensures lines { IfOk result (λ v. map line_text v.items ≡ report_of bytes.now) }
     ensures made { OnOk result (IsMade (plan_of bytes.now)) }
 {
+    // A fault is a report too, so of the three ends only one is an error.
     match read_plan(heap, bytes) {
         Ok(plan) => play_plan(heap, &plan),
         Err(PlanError::Fault(fault)) => Ok(vec![in heap; Line::Fault(fault)]?),

@@ -1,6 +1,5 @@
 // The observer that keeps the lines of a run.
-ghost use Rattle.std.specs.Prelude.{◌≡◌, List, [], ◌∷◌, ◌++◌, map, IfOk, IsOkAnd};
-ghost use Rattle.rules.specs.Replay.{Told};
+ghost use Rattle.std.specs.Prelude.{◌≡◌, [], ◌∷◌, ◌++◌, map, IfOk, IsOkAnd};
 ghost use Rattle.report.specs.Lines.{line_text};
 ghost use Rattle.report.specs.Reports.{is_refused, is_printed, told_lines};
 

@@ -1,4 +1,4 @@
-// The limits of an engine.
+// The limits of an engine that more than one crate needs.
 
 // At most so many cores.
 pub const MOST_CORES: usize = 8;

@@ -46,7 +46,7 @@ pub enum Call {
 }
 
 // What a call answers: number and core; state and deadline; the budget left; the lapse tick of the parts left behind, or that
-// they are free; the tick of the round dealt; the clock; or a refusal.
+// they are free; the tick of the round dealt; the clock; or a refusal, which is a case like the others: each is printed and told.
 #[derive(Clone, Copy, Debug, PartialEq, Eq)]
 pub enum Answer {
     Placed(u32, u32),

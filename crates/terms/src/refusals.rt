@@ -47,6 +47,7 @@ pub enum Refusal {
 }
 
 impl Refusal {
+    // One cast of the enum; `From` would be a second way to the same.
     pub fn number(self) -> u32
         ensures answer { result ≡ number self }
         ensures tells { TellsApart self result }

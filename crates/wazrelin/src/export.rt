@@ -33,7 +33,7 @@ impl Written {
     }
 }
 
-// Writes the bytes to the front of the buffer, where they fit.
+// Writes the bytes to the front of the caller's buffer, where they fit.
 fn fill(bytes: &[u8], out: &mut [u8]) -> Written
     ensures { Filled bytes.now out.old result out.new }
 {
@@ -53,6 +53,7 @@ pub extern "C" fn wazrelin_report(heap: Global, plan: &[u8], out: &mut [u8]) -> 
 {
     match report_text(heap, plan) {
         Ok(text) => fill(text.as_bytes(), out),
+        // An answer of its own.
         Err(_) => Written::new(0, Status::NoMemory),
     }
 }

@@ -1,4 +1,5 @@
-// The calls of the engine. Each answers as the model does and shows the model's next state; a refusal leaves the engine as it was.
+// The calls of the engine. Each answers as the model does and shows the model's next state; a refusal leaves the engine as it was. What is made and what is kept relate two
+// states, so each call says it.
 ghost use Rattle.std.specs.Prelude.{◌≡◌, true, is_err};
 ghost use Rattle.rules.specs.declared.types.Call.TheVariants.{Admit, Wake, Rest, Leave, Move, Deal, Settle};
 ghost use Rattle.rules.specs.Setup.{setup_of};

@@ -92,7 +92,7 @@ impl Inner {
                 // A round is dealt only before the last tick.
                 let clock = self.table.tick(picks).unwrap();
                 self.ledger.purge(clock);
-                // A None written in its place would be made in full at each call, settled or refused.
+                // Faster than to write None.
                 self.round.take();
                 Ok(clock)
             }

@@ -1,24 +1,17 @@
 // One call of a run, of which the observer is told.
-ghost use Rattle.std.specs.Prelude.{◌≡◌, is_ok};
+ghost use Rattle.std.specs.Prelude.{is_ok};
 ghost use Rattle.rules.specs.declared.types.Answer.TheVariants.{Dealt, Clock};
 ghost use Rattle.rules.specs.declared.types.Call.TheVariants.{Deal, Settle};
-ghost use Rattle.engine.specs.Answers.{answer_by, departure_said};
+ghost use Rattle.engine.specs.Answers.{answer_by};
 ghost use Rattle.engine.specs.Driven.{Called, Drove};
 ghost use Rattle.engine.specs.Driving.{trying};
 
 use super::Runner;
-use crate::answers::Departure;
 use crate::observer::Observer;
 use measure::Measure;
 use policy::Policy;
 use rules::{Answer, Call};
 use terms::Refusal;
-
-fn departed(departure: Departure) -> Answer
-    ensures { result ≡ departure_said departure }
-{
-    departure.until.map_or(Answer::Free, Answer::Until)
-}
 
 impl<M: Measure, P: Policy> Runner<M, P> {
     // Makes a call and tells the observer what it answers, and whom a deal named. In line, as a round's two calls are known.
@@ -40,23 +33,17 @@ impl<M: Measure, P: Policy> Runner<M, P> {
         }
     }
 
-    // Makes a call. In line as well.
+    // Makes a call. Calls are data that a plan names, so they are matched on. In line as well.
     #[inline(always)]
     fn make(&mut self, call: Call) -> Result<Answer, Refusal>
         ensures { Called M.Measure.whole M.Measure.price P.Policy.choice call self.old (answer_by (λ a. a) result) self.new }
     {
         match call {
-            Call::Admit(budget, period) => {
-                let placement = self.engine.admit(budget, period)?;
-                Ok(Answer::Placed(placement.number, placement.core))
-            }
-            Call::Wake(number) => {
-                let woken = self.engine.wake(number)?;
-                Ok(Answer::Awake(woken.state, woken.deadline))
-            }
+            Call::Admit(budget, period) => Ok(self.engine.admit(budget, period)?.into()),
+            Call::Wake(number) => Ok(self.engine.wake(number)?.into()),
             Call::Rest(number) => Ok(Answer::Left(self.engine.rest(number)?)),
-            Call::Leave(number) => Ok(departed(self.engine.leave(number)?)),
-            Call::Move(number, core) => Ok(departed(self.engine.migrate(number, core)?)),
+            Call::Leave(number) => Ok(self.engine.leave(number)?.into()),
+            Call::Move(number, core) => Ok(self.engine.migrate(number, core)?.into()),
             Call::Deal => Ok(Answer::Dealt(self.deal()?)),
             Call::Settle(tick) => Ok(Answer::Clock(self.settle(tick)?)),
         }

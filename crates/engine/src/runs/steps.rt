@@ -14,7 +14,7 @@ use policy::Policy;
 use rules::Call;
 use terms::Refusal;
 
-// Each of these ends at the first deal of a round that is refused.
+// Each of these ends at the first deal of a round that is refused. Rounds and steps have a loop of a line each, since one function over a closure would need clauses for every call of it.
 impl<M: Measure, P: Policy> Runner<M, P> {
     // Deals a round and settles it.
     fn pass_round<O: Observer>(&mut self, observer: &mut O) -> Result<(), Refusal>
@@ -40,6 +40,7 @@ impl<M: Measure, P: Policy> Runner<M, P> {
     {
         self.pass_rounds(step.rounds, observer)?;
         if let Some(call) = step.call {
+            // A call that is refused does not end the run.
             let _ = self.perform(call, observer);
         }
         Ok(())

@@ -1,15 +1,11 @@
 // Makings, runs and calls of a trial.
 use super::Trial;
-use engine::{Departure, Engine, Finish, Observer, Step, Unsettled, run};
+use engine::{Engine, Finish, Observer, Step, Unsettled, run};
 use measure::Measure;
 use policy::Policy;
 use rules::{Answer, Call};
 use std::mem::swap;
 use terms::Refusal;
-
-fn departed(departure: Departure) -> Answer {
-    departure.until.map_or(Answer::Free, Answer::Until)
-}
 
 impl<M: Measure + Drop, P: Policy + Drop> Trial<M, P> {
     pub fn new(measure: M, policy: P, figures: &[u32], start: u32) -> Result<Trial<M, P>, Refusal> {
@@ -50,23 +46,17 @@ impl<M: Measure + Drop, P: Policy + Drop> Trial<M, P> {
 
     fn make(&mut self, call: Call) -> Result<Answer, Refusal> {
         match call {
-            Call::Admit(budget, period) => {
-                let placement = self.engine.admit(budget, period)?;
-                Ok(Answer::Placed(placement.number, placement.core))
-            }
-            Call::Wake(number) => {
-                let woken = self.engine.wake(number)?;
-                Ok(Answer::Awake(woken.state, woken.deadline))
-            }
+            Call::Admit(budget, period) => Ok(self.engine.admit(budget, period)?.into()),
+            Call::Wake(number) => Ok(self.engine.wake(number)?.into()),
             Call::Rest(number) => Ok(Answer::Left(self.engine.rest(number)?)),
-            Call::Leave(number) => Ok(departed(self.engine.leave(number)?)),
-            Call::Move(number, core) => Ok(departed(self.engine.migrate(number, core)?)),
+            Call::Leave(number) => Ok(self.engine.leave(number)?.into()),
+            Call::Move(number, core) => Ok(self.engine.migrate(number, core)?.into()),
             Call::Deal => Ok(Answer::Dealt(self.deal()?)),
             Call::Settle(tick) => Ok(Answer::Clock(self.settle(tick)?)),
         }
     }
 
-    // The tick of a round cannot be read: it is the clock's.
+    // The tick of a round cannot be read: it is the clock's. A round has no Drop, so what replace hands back is taken by a match.
     fn deal(&mut self) -> Result<u32, Refusal> {
         let round = self.engine.deal()?;
         match self.hand.replace(round) {
