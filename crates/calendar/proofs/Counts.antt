@@ -1,7 +1,10 @@
 -- What a queue keeps of its list: any sum or count, what is held, and the copies of each element, which fix the queue.
 -- Assumes nothing.
-use Rattle.std.proofs.Common.{◌≡◌, ℕ, zero, suc, ◌+◌, ◌<◌, Bool, true, false, cond, ◌||◌, List, [], ◌∷◌, length, get_or, filter, sym, refl, ap, ◌∙◌, subst, ⊎_elim, not-suc-le-zero, arith}
+use Rattle.std.proofs.Common.{◌≡◌, ℕ, zero, suc, ◌+◌, ◌<◌, Bool, true, false, cond, ◌||◌, List, [], ◌∷◌, ◌++◌, length, get_or, filter, sum_by, sym, refl, ap, ◌∙◌, subst, ⊎_elim, not-suc-le-zero, arith}
+use Rattle.std.specs.List.{All}
 use Rattle.std.proofs.lemmas.Bool.{cond_both, cases_Bool}
+use Rattle.std.proofs.lemmas.List.Elements.{All-head, All-tail}
+use Rattle.std.proofs.lemmas.List.Sums.{sum_by-cons}
 use Rattle.calendar.specs.Orders.{Total, alike}
 use Rattle.calendar.specs.Queues.{filed, queue, without, holds, copies, SameCopies}
 use Rattle.calendar.proofs.Filing.{itself, filed_comm, without_filed}
@@ -23,6 +26,12 @@ module _ {X : Type 0} (before : X → X → Bool) where
   pub length_queue : (xs : List X) → length (queue before xs) ≡ length xs
   length_queue = fold_queue before length (λ _ n. suc n) (λ _ _. refl) (λ _ _ _. refl)
 
+  pub sum_by_queue : (f : X → ℕ) (xs : List X) → sum_by f (queue before xs) ≡ sum_by f xs
+  sum_by_queue f = fold_queue before (sum_by f) (λ x n. f x + n) (sum_by-cons f) (λ x y n. omega arith)
+
+  pub holds_filed : (z x : X) (q : List X) → holds before z (filed before x q) ≡ (alike before z x || holds before z q)
+  holds_filed z = fold_filed before (holds before z) (λ x b. alike before z x || b) (λ _ _. refl) (λ x y b. grind arith)
+
   pub holds_queue : (z : X) (xs : List X) → holds before z (queue before xs) ≡ holds before z xs
   holds_queue z = fold_queue before (holds before z) (λ x b. alike before z x || b) (λ _ _. refl) (λ x y b. grind arith)
 
@@ -31,6 +40,14 @@ module _ {X : Type 0} (before : X → X → Bool) where
 
   pub copies_queue : (z : X) (xs : List X) → copies before z (queue before xs) ≡ copies before z xs
   copies_queue z = fold_queue before (copies before z) (λ x n. cond (alike before z x) 1 0 + n) (λ _ _. refl) (λ x y n. omega arith)
+
+  pub holds_append : (x : X) (xs ys : List X) → holds before x (xs ++ ys) ≡ (holds before x xs || holds before x ys)
+  holds_append x [] ys = refl
+  holds_append x (z ∷ xs) ys = let h = holds_append x xs ys in grind arith
+
+  pub copies_push : (x : X) (xs : List X) (y : X) → copies before x (xs ++ y ∷ []) ≡ copies before x xs + cond (alike before x y) 1 0
+  copies_push x [] y = omega arith
+  copies_push x (z ∷ xs) y = omega (arith, copies_push x xs y)
 
   -- the copies are those that a filter keeps
   pub copies_filter : (x : X) (xs : List X) → length (filter (alike before x) xs) ≡ copies before x xs
@@ -59,6 +76,12 @@ module _ {X : Type 0} {before : X → X → Bool} (o : Total before) where
   holds_at [] i d h = absurd (not-suc-le-zero h)
   holds_at (x ∷ xs) zero d h = let i = alike_itself x in grind arith
   holds_at (x ∷ xs) (suc i) d h = let r : holds before (get_or xs i d) xs ≡ true = holds_at xs i d (omega arith) in grind arith
+
+  -- what holds of each element holds of one that is held
+  pub all_holds : (P : X → Type 0) (x : X) (xs : List X) → All P xs → holds before x xs ≡ true → P x
+  all_holds P x [] all h = cc
+  all_holds P x (y ∷ ys) all h =
+      ⊎_elim (λ e. subst P (sym (alike_same x y e)) (All-head P y ys all)) (λ e. all_holds P x ys (All-tail P y ys all) (rw e at h)) (cases_Bool (alike before x y))
 
   -- one that is held is filed among the others
   pub queue_held : (x : X) (xs : List X) → holds before x xs ≡ true → queue before xs ≡ filed before x (queue before (without before x xs))

@@ -2,7 +2,7 @@
 -- Assumes nothing.
 use Rattle.std.proofs.Common.{◌≡◌, ℕ, suc, ◌+◌, ◌<◌, ◌≤◌, Bool, true, false, List, [], ◌∷◌, ◌++◌, length, get_or, take, drop, set, sym, refl, ap, ◌∙◌, subst, ⊎_elim, arith}
 use lib.Seq.{take-set-lt}
-use Rattle.std.proofs.lemmas.List.{set-get_or, set_split, take_more, get_or-take, length-take-le}
+use Rattle.std.proofs.lemmas.List.{append-nil, set-get_or, set_split, take_more, get_or-take, length-take-le}
 use Rattle.std.proofs.lemmas.Bool.{cases_lt}
 use Rattle.calendar.specs.Orders.{Total}
 use Rattle.calendar.specs.Queues.{filed, queue, without}
@@ -37,6 +37,11 @@ module _ {X : Type 0} {before : X → X → Bool} (o : Total before) where
   pub queue_middle : (xs : List X) (y : X) (ys : List X) → queue before (xs ++ y ∷ ys) ≡ filed before y (queue before (xs ++ ys))
   queue_middle [] y ys = refl
   queue_middle (x ∷ xs) y ys = ap (filed before x) (queue_middle xs y ys) ∙ filed_comm x y (queue before (xs ++ ys))
+
+  -- the order of two parts does not matter
+  pub queue_append : (xs ys : List X) → queue before (xs ++ ys) ≡ queue before (ys ++ xs)
+  queue_append [] ys = ap (queue before) (sym (append-nil ys))
+  queue_append (x ∷ xs) ys = ap (filed before x) (queue_append xs ys) ∙ sym (queue_middle ys x xs)
 
   -- what was filed is taken out again
   pub without_filed : (x : X) (q : List X) → without before x (filed before x q) ≡ q

@@ -4,5 +4,7 @@ pub mod Counts
 pub mod Sorted
 pub mod Bags
 pub mod Filters
+pub mod Rows
+pub mod Room
 pub mod Steps
 pub mod Least

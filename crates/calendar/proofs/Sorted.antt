@@ -44,6 +44,11 @@ module _ {X : Type 0} {before : X → X → Bool} (o : Total before) where
   filed_front x [] h = refl
   filed_front x (y ∷ ys) h = cond-true (before x y) _ _ (All-head (λ z. before x z ≡ true) y ys h)
 
+  -- a list that ascends is its own queue
+  pub queue_ascending : (q : List X) → Ascending before q → queue before q ≡ q
+  queue_ascending [] asc = refl
+  queue_ascending (x ∷ q) asc = ap (filed before x) (queue_ascending q asc.1) ∙ filed_front x q asc.0
+
   -- the first is taken out
   pub without_first : (x : X) (q : List X) → without before x (x ∷ q) ≡ q
   without_first x q = let i = itself o x in grind arith

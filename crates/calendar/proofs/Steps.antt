@@ -1,22 +1,55 @@
 -- What each function's return and each turn of its loop come to, over plain lists.
 -- Assumes nothing.
-use Rattle.std.proofs.Common.{◌≡◌, ℕ, suc, ◌+◌, ◌-◌, ◌<◌, Bool, true, false, List, [], ◌∷◌, length, get_or, take, set, Some, None, Option, sym, refl, ap, ◌∙◌, ⊎_elim, arith}
-use Rattle.std.proofs.lemmas.List.{get_or_read, get_or-take, length-take, nil_from_length, take_min, take_more_set}
+use Rattle.std.proofs.Common.{◌≡◌, ℕ, suc, ◌+◌, ◌-◌, ◌<◌, ◌≤◌, min, Bool, true, false, cond, List, [], ◌∷◌, ◌++◌, length, get_or, take, drop, set, Some, None, Option, sym, refl, ap, ◌∙◌, ⊎_elim, arith}
+use Rattle.std.proofs.lemmas.List.{get_or_read, get_or-take, length-take, length-take-le, nil_from_length, take_all, take_min, take_more, take_more_set, get_or-set_other, drop-set-lt}
 use Rattle.std.specs.List.{AllWithin, HoldsAt}
 use Rattle.std.specs.Option.{MatchOption}
 use Rattle.std.proofs.lemmas.List.Elements.{All-from_get_or}
 use Rattle.std.proofs.lemmas.Bool.{cases_lt}
 use Rattle.calendar.specs.Orders.{Total, alike}
-use Rattle.calendar.specs.Queues.{filed, queue, first, without, holds, Least}
-use Rattle.calendar.specs.Places.{held, size, counting, LeastAt, FoundAt}
+use Rattle.calendar.specs.Queues.{filed, queue, first, without, holds, copies, Least}
+use Rattle.calendar.specs.Places.{held, size, counting, OneWritten, LeastAt, FoundAt}
 use Rattle.calendar.specs.declared.Calendar.{Calendar}
 use Rattle.calendar.proofs.Filing.{other_way, itself, queue_push, queue_hole}
 use Rattle.calendar.proofs.Sorted.{Heads, queue_least, first_none, first_some}
-use Rattle.calendar.proofs.Counts.{alike_same, holds_at, holds_queue, without_none}
+use Rattle.calendar.proofs.Counts.{alike_same, copies_push, holds_append, holds_at, holds_queue, without_none}
 
 -- one read at a held place
 pub held_read : {X : Type 0} (c : Calendar) (xs : List X) (p : ℕ) (r : X) → p < length (held c xs) → r ≡ get_or xs p r → r ≡ get_or (held c xs) p r
 held_read c xs p r lt isr = isr ∙ sym (get_or-take c.count xs p r (omega (arith, length-take c.count xs)))
+
+-- the count of places held says what is held
+pub take_size : {X : Type 0} (xs : List X) (c n : ℕ) → n ≡ min c (length xs) → take c xs ≡ take n xs
+take_size xs c n is =
+    ⊎_elim (λ lt. let same : c ≡ n = omega arith in ap (λ k. take k xs) same)
+    (λ ge. take_all c xs ge ∙ sym (take_all n xs (omega arith)))
+    (cases_lt c (length xs))
+
+-- one more is counted
+pub copies_more : {X : Type 0} (before : X → X → Bool) (x : X) (xs : List X) (i : ℕ) (y : X) → i < length xs → y ≡ get_or xs i y → copies before x (take (i + 1) xs) ≡ copies before x (take i xs) + cond (alike before x y) 1 0
+copies_more before x xs i y within isy =
+    ap (copies before x) (take_more xs i y within ∙ ap (λ z. take i xs ++ z ∷ []) (sym isy)) ∙ copies_push before x (take i xs) y
+
+-- where no place is held nothing is
+pub nothing : {X : Type 0} (xs : List X) (c n : ℕ) → n ≡ min c (length xs) → n ≡ 0 → take c xs ≡ []
+nothing xs c n is none = take_size xs c n is ∙ ap (λ k. take k xs) none
+
+-- one place is written, among the first n
+pub one_written : {X : Type 0} (xs ys : List X) (n p : ℕ) (y : X) → p < n → ys ≡ set xs p y → OneWritten n xs ys
+one_written xs ys n p y h is = record {
+  hole = p;
+  elsewhere = λ k d ne. ap (λ zs. get_or zs k d) is ∙ get_or-set_other xs p k y d ne;
+  past = ap (drop n) is ∙ drop-set-lt n xs p y h;
+}
+
+pub none_written : {X : Type 0} (xs : List X) (n : ℕ) → OneWritten n xs xs
+none_written xs n = record { hole = 0; elsewhere = λ k d ne. refl; past = refl }
+
+-- what taking r out comes to
+pub record Taken {X : Type 0} (before : X → X → Bool) (r : X) (c c' : Calendar) (xs ys : List X) : Type 0 where
+  pub next : c' ≡ counting (size c xs - 1)
+  pub ordered : queue before (held c' ys) ≡ without before r (queue before (held c xs))
+  pub written : OneWritten (size c xs) xs ys
 
 module _ {X : Type 0} {before : X → X → Bool} (o : Total before) where
   -- a turn of the search for the least that keeps the place
@@ -72,6 +105,18 @@ module _ {X : Type 0} {before : X → X → Bool} (o : Total before) where
       let m : n - 1 + 1 ≡ n = omega arith in
       let hole = queue_hole o xs (n - 1) p r (omega arith) (omega arith) in
       rw (next, set_is) (rw (← isr, m, take_min) at hole)
+
+  -- a turn of the search for one that is not at this place
+  pub not_here : (xs : List X) (i : ℕ) (x y : X) → holds before x (take i xs) ≡ false → i < length xs → y ≡ get_or xs i y → alike before x y ≡ false → holds before x (take (i + 1) xs) ≡ false
+  not_here xs i x y none within isy apart =
+      let more : take (i + 1) xs ≡ take i xs ++ y ∷ [] = take_more xs i y within ∙ ap (λ z. take i xs ++ z ∷ []) (sym isy) in
+      let joined = holds_append before x (take i xs) (y ∷ []) in
+      rw (more, joined, none, apart)
+
+  -- the one looked for is at this place
+  pub here : (xs : List X) (n i : ℕ) (x y : X) → i < n → n ≤ length xs → y ≡ get_or xs i y → alike before x y ≡ true → FoundAt before x (take n xs) (Some i)
+  here xs n i x y lt le isy same =
+      (omega (arith, length-take-le n xs le), λ d. get_or-take n xs i d lt ∙ sym (get_or_read xs i y (omega arith) isy d) ∙ sym (alike_same o x y same))
 
   not_held : (x : X) (xs : List X) → AllWithin (λ y. alike before x y ≡ false) xs 0 (length xs) → holds before x xs ≡ false
   not_held x [] none = refl

@@ -16,7 +16,7 @@ use Rattle.rules.specs.Lists.{find, change}
 use Rattle.terms.specs.Limits.{in_limits}
 use Rattle.rules.specs.Share.{ShareLaw}
 use Rattle.rules.specs.Calls.{Outcome, refused, answered, check, given_by, admitted, with_newcomer, on_live, entry_due, place_for, ledger_after, departure, answer, admit, wake, rest, leave, move, deal, settle}
-use Rattle.rules.specs.Replay.{state_after, answer_of, next, reply}
+use Rattle.rules.specs.Replay.{state_after, answer_of, is_accepted, accepts, next, reply}
 use Rattle.rules.proofs.Counts.{after_append}
 use Rattle.ledger.specs.Entries.{SameEntries}
 use Rattle.engine.specs.Shown.{Same, Performed}
@@ -24,6 +24,16 @@ use Rattle.ledger.proofs.Same.{same_length, same_departed, same_kept, same_cons}
 
 pub same_refl : (σ : System) → Same σ σ
 same_refl σ = record { clock = refl; live = refl; ledger = refl; given = refl; out = refl; names = refl }
+
+pub same_sym : {σ τ : System} → Same σ τ → Same τ σ
+same_sym h = record {
+  clock = sym h.clock;
+  live = sym h.live;
+  ledger = sym h.ledger;
+  given = sym h.given;
+  out = sym h.out;
+  names = sym h.names;
+}
 
 pub same_trans : {σ τ υ : System} → Same σ τ → Same τ υ → Same σ υ
 same_trans h k = record {
@@ -116,6 +126,14 @@ pub same_reply : (s : Setup) {σ τ : System} → Same σ τ → (c : Call) → 
 same_reply s {σ} {τ} h c = go (outcomes s h c)
   where
     go : {x y : Outcome} → SameOutcome x y → answer_of x ≡ answer_of y
+    go (both_refused n) = refl
+    go (both_answered a k) = refl
+
+-- are accepted and refused alike,
+pub same_accepts : (s : Setup) {σ τ : System} → Same σ τ → (c : Call) → accepts s σ c ≡ accepts s τ c
+same_accepts s {σ} {τ} h c = go (outcomes s h c)
+  where
+    go : {x y : Outcome} → SameOutcome x y → is_accepted x ≡ is_accepted y
     go (both_refused n) = refl
     go (both_answered a k) = refl
 

@@ -44,3 +44,11 @@ module _ {M P : Type 0} (whole : M → ℕ) (price : M → ℕ → ℕ → Optio
   pub refuses_handed : {X : Type 0} (f : X → Answer) → LawfulMeasure (whole e.measure) (price e.measure) → LawfulPolicy (choice e.policy) → (c : Call) (n : Refusal) (r : Result X Refusal) → IsErrAnd r (λ m. m ≡ n) → answer (setup whole price choice e) (shown e) c ≡ refused n → Performed (setup whole price choice e) (shown e) c (answer_by f r) (shown e)
   refuses_handed f measured placed c n r handed why =
       performs measured placed c (answer (setup whole price choice e) (shown e) c) (answer_by f r) e.inner refl (follows_handed f e.inner e.inner _ n r handed why refl)
+
+  -- Figures of the same cores and start are those of the same setup.
+  pub same_setup : (i : Inner) → figures_of i ≡ figures_of e.inner → i.start ≡ e.inner.start → setup whole price choice (record { measure = e.measure; policy = e.policy; inner = i }) ≡ setup whole price choice e
+  same_setup i figures start = λ k. setup_of (whole e.measure) (price e.measure) (choice e.policy) (figures k) (start k)
+
+  -- The engine is as it was where its figures are.
+  pub same_engine : (i : Inner) → i ≡ e.inner → ◌≡◌ {A = Engine M P} (record { measure = e.measure; policy = e.policy; inner = i }) e
+  same_engine i same = λ k. record { measure = e.measure; policy = e.policy; inner = same k }

@@ -8,7 +8,7 @@ use Rattle.std.proofs.lemmas.List.Recursion.{and_push}
 use Rattle.std.proofs.lemmas.Bool.{le-leb, lt-ltb, le-ltb, cond-true, cond-false}
 use Rattle.std.proofs.lemmas.Bool.Decides.{nat_tests}
 use Rattle.calendar.specs.declared.Calendar.{Calendar}
-use Rattle.calendar.specs.Places.{counting, put_calendar, put_places}
+use Rattle.calendar.specs.Places.{counting, less, put_calendar, put_places}
 use Rattle.calendar.specs.Queues.{queue, first, after}
 use Rattle.calendar.proofs.Filters.{kept_queue}
 use Rattle.calendar.proofs.Sorted.{first_some, first_none}
@@ -30,17 +30,24 @@ none_before_more t e es n h was =
     let push = and_push (none_before m) (λ x. leb m x.lapse) refl (λ _ _. refl) (take n es) e in
     rw (take_more_set es n e, push, front) (le-leb m e.lapse (omega arith))
 
--- none lapses before the least one does
-none_before_first : (e : Entry) (es : List Entry) → All (λ x. lapses_first e x ≡ true) es → none_before e.lapse es ≡ true
-none_before_first e [] all = refl
-none_before_first e (x ∷ es) all =
-    let more = none_before_first e es (All-tail (λ x. lapses_first e x ≡ true) x es all) in
+-- none lapses before one that is at most each
+none_before_heads : (e : Entry) (es : List Entry) → All (λ x. lapses_first e x ≡ true) es → none_before e.lapse es ≡ true
+none_before_heads e [] all = refl
+none_before_heads e (x ∷ es) all =
+    let more = none_before_heads e es (All-tail (λ x. lapses_first e x ≡ true) x es all) in
     let le = first_lapses e x (All-head (λ x. lapses_first e x ≡ true) x es all) in
     grind (arith, nat_tests)
 
 pub none_before_least : (least : Option Entry) (t : ℕ) (es : List Entry) → least ≡ first (queue lapses_first es) → IfSome least (λ e. t ≡ e.lapse) → none_before t es ≡ true
 none_before_least None t es is at = rw (first_none order es (sym is))
-none_before_least (Some e) t es is at = rw at (none_before_first e es (first_some order es e (sym is)).1)
+none_before_least (Some e) t es is at = rw at (none_before_heads e es (first_some order es e (sym is)).1)
+
+-- none lapses before the least one does
+pub none_before_first : (e : Entry) (es : List Entry) → Some e ≡ first (queue lapses_first es) → none_before e.lapse es ≡ true
+none_before_first e es is = none_before_least (Some e) e.lapse es is refl
+
+pub none_before_none : (t : ℕ) (es : List Entry) → None ≡ first (queue lapses_first es) → none_before t es ≡ true
+none_before_none t es is = rw (first_none order es (sym is))
 
 -- where none lapses before a later tick, all stay
 pub purged_none : (clock t : ℕ) (es : List Entry) → clock < t → none_before t es ≡ true → purged clock es ≡ es
@@ -55,10 +62,19 @@ put_one t m e c c' es es' was room least next put =
     let places : es' ≡ set es c.count e = put ∙ cond-true _ _ _ roomy in
     rw (least, count, places) (none_before_more t e es c.count room was)
 
+-- a removal never raises the count
+pub less_count : (r : Option Entry) (c c' : Calendar) (es : List Entry) → c' ≡ less r c es → c'.count ≤ c.count
+less_count None c c' es is = rw is (omega arith)
+less_count (Some e) c c' es is = rw is (omega arith)
+
 module _ (clock : ℕ) (start es : List Entry) (was : SameEntries (purged clock es) (purged clock start)) where
   -- the least stays: all do
   pub least_stays : (e : Entry) → Some e ≡ first (queue lapses_first es) → clock < e.lapse → SameEntries es (purged clock start)
   least_stays e is lt = ap (queue lapses_first) (sym (purged_none clock e.lapse es lt (none_before_least (Some e) e.lapse es is refl))) ∙ was
+
+  -- none is left
+  pub least_none : None ≡ first (queue lapses_first es) → SameEntries es (purged clock start)
+  least_none is = let empty = first_none order es (sym is) in rw empty (rw empty at was)
 
   -- the least goes
   pub least_goes : (e : Entry) (es' : List Entry) → Some e ≡ first (queue lapses_first es) → e.lapse ≤ clock → queue lapses_first es' ≡ after (queue lapses_first es) → SameEntries (purged clock es') (purged clock start)

@@ -1,9 +1,15 @@
--- What a core counts of entries is the sum over those that count.
-use Rattle.std.proofs.Common.{◌≡◌, ℕ, ◌+◌, Bool, true, false, cond, List, [], ◌∷◌, map, sum, filter, refl, ap, ◌∙◌, arith}
+-- What a core counts of entries is the sum over those that count, and a sum over a list's front, one entry more.
+use Rattle.std.proofs.Common.{◌≡◌, ℕ, ◌+◌, ◌<◌, Bool, true, false, cond, List, [], ◌∷◌, length, get_or, take, map, sum, filter, refl, ap, ◌∙◌, arith}
+use Rattle.std.proofs.lemmas.List.{take_more}
 use Rattle.std.proofs.lemmas.List.Sums.{sum_by_from}
+use Rattle.rules.specs.Lists.{total}
+use Rattle.rules.proofs.Totals.{total_push}
 use Rattle.rules.specs.declared.types.Entry.{Entry}
 use Rattle.rules.specs.Parts.{departed_parts}
 use Rattle.ledger.specs.Lapses.{counts, counted_parts}
+
+pub total_more : {X : Type 0} (f : X → ℕ) (xs : List X) (i : ℕ) (d : X) → i < length xs → total f (take (i + 1) xs) ≡ total f (take i xs) + f (get_or xs i d)
+total_more f xs i d h = ap (total f) (take_more xs i d h) ∙ total_push f (take i xs) (get_or xs i d)
 
 module _ (t c : ℕ) where
   abbrev parts : List Entry → List ℕ

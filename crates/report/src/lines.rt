@@ -64,7 +64,7 @@ fn play<M: Measure + Drop, P: Policy + Drop>(
     requires { IsWithinLimits plan.now.header }
     ensures { IfOk result (λ v. map line_text v.items ≡ header_lines (M.Measure.whole measure) (M.Measure.price measure) (P.Policy.choice policy) plan.now.header (map step_of (contents_of plan.now).events)) }
 {
-    let figures = figures_of(heap, &plan.header)?;
+    let figures = figures_of(&plan.header);
     let steps = steps_of(heap, &plan.events)?;
     let mut notes = Notes::new(heap);
     let Finish {

@@ -3,9 +3,10 @@ ghost use Rattle.std.specs.Prelude.{◌≡◌, map, IfOk};
 ghost use Rattle.plan.specs.Records.{row_of};
 ghost use Rattle.report.specs.Reports.{call_of, step_of, figures_of};
 
+use arrayvec::ArrayVec;
 use engine::Step;
 use plan::{Event, Header};
-use rules::Call;
+use rules::{Call, MOST_CORES};
 use std::alloc::{AllocError, Global};
 
 // The call of an event; the end record makes none.
@@ -39,13 +40,11 @@ pub fn steps_of(heap: Global, events: &[Event]) -> Result<Vec<Step>, AllocError>
     events.iter().map(|event| step_of(*event)).collect(heap)
 }
 
-// The figures B of the cores.
-pub fn figures_of(heap: Global, header: &Header) -> Result<Vec<u32>, AllocError>
-    ensures { IfOk result (λ v. v.items ≡ figures_of header.now) }
+// The figures B of the cores, of which there are eight at most, so that no memory is asked for.
+pub fn figures_of(header: &Header) -> ArrayVec<u32, MOST_CORES>
+    ensures { result.items ≡ figures_of header.now }
 {
-    header
-        .core_bounds()
-        .iter()
-        .map(|bound| u32::from(*bound))
-        .collect(heap)
+    let mut figures = ArrayVec::from(header.bounds.map(u32::from));
+    figures.truncate(header.cores as usize);
+    figures
 }

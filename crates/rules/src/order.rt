@@ -12,6 +12,6 @@ impl Order for Entry {
     ghost total = { total_by entry_figures (λ x y e. Prim.grind arith) };
 
     fn at_most(self, other: Entry) -> bool {
-        self <= other
+        self.cmp(&other).is_le()
     }
 }

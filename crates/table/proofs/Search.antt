@@ -1,5 +1,5 @@
 -- The first reservation with a number, by its place.
-use Rattle.std.proofs.Common.{◌≡◌, ℕ, zero, suc, ◌<◌, ◌≤◌, Bool, cond, eqb, List, [], ◌∷◌, length, get_or, set, Some, None, slice_get, Ok, Err, sym, refl, ap, ◌∙◌, inl, inr, not-suc-le-zero, arith}
+use Rattle.std.proofs.Common.{◌≡◌, ℕ, zero, suc, ◌+◌, ◌<◌, ◌≤◌, Bool, cond, eqb, List, [], ◌∷◌, length, get_or, set, take, Some, None, slice_get, Ok, Err, sym, refl, ap, ◌∙◌, inl, inr, not-suc-le-zero, arith}
 use Rattle.std.specs.List.{find as first_where, position, position_or_len, remove}
 use Rattle.std.specs.Option.{ok_or}
 use Rattle.std.proofs.lemmas.Bool.{cases_lt, cond-true, cond-false, lt-ltb, le-ltb}
@@ -18,6 +18,17 @@ module _ (n : ℕ) where
   pub find_is : (rs : List Reservation) → first_where named rs ≡ find n rs
   find_is [] = refl
   find_is (r ∷ rs) = ap (λ o. cond (named r) (Some r) o) (find_is rs)
+
+  -- the row at i, where none of those before it has the number
+  pub first_here : (rs : List Reservation) (i : ℕ) (d : Reservation) → i < length rs → find n (take i rs) ≡ None → (get_or rs i d).number ≡ n → Some (get_or rs i d) ≡ find n rs
+  first_here [] i d within none is = absurd (not-suc-le-zero within)
+  first_here (r ∷ rs) zero d within none is = grind (arith, nat_tests)
+  first_here (r ∷ rs) (suc i) d within none is = let h = first_here rs i d in grind (arith, nat_tests)
+
+  pub not_here : (rs : List Reservation) (i : ℕ) (d : Reservation) → i < length rs → find n (take i rs) ≡ None → ((get_or rs i d).number ≡ n → ⊥) → find n (take (i + 1) rs) ≡ None
+  not_here [] i d within none other = absurd (not-suc-le-zero within)
+  not_here (r ∷ rs) zero d within none other = grind (arith, nat_tests)
+  not_here (r ∷ rs) (suc i) d within none other = let h = not_here rs i d in grind (arith, nat_tests)
 
   change_first : (x : Reservation) (rs : List Reservation) (i : ℕ) → i ≡ position_or_len named rs → i < length rs → change n x rs ≡ set rs i x
   change_first x [] i is within = refl

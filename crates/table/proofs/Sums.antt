@@ -1,15 +1,24 @@
--- The parts of the live reservations on a core, as a sum over those that are on it.
-use Rattle.std.proofs.Common.{◌≡◌, ℕ, ◌+◌, Bool, true, false, cond, eqb, List, [], ◌∷◌, sym, refl, ap, ◌∙◌, zero-add}
-use Rattle.std.specs.List.{filter, sum_by}
-use Rattle.std.proofs.lemmas.List.Sums.{sum_by-cons}
+-- The parts of the live reservations on a core, one more at a time.
+use Rattle.std.proofs.Common.{◌≡◌, ℕ, ◌+◌, ◌<◌, cond, eqb, List, [], ◌∷◌, ◌++◌, length, get_or, take, ap, ◌∙◌, arith}
+use Rattle.std.proofs.lemmas.List.{take_more}
+use Rattle.std.proofs.lemmas.Bool.Decides.{nat_tests}
 use Rattle.rules.specs.declared.types.Reservation.{Reservation}
+use Rattle.rules.specs.Lists.{total}
 use Rattle.rules.specs.Parts.{live_parts}
 
-sum_if : (b : Bool) (r : Reservation) (rs : List Reservation) → sum_by (λ x. x.parts) (cond b (r ∷ rs) rs) ≡ cond b r.parts 0 + sum_by (λ x. x.parts) rs
-sum_if true r rs = sum_by-cons (λ x. x.parts) r rs
-sum_if false r rs = sym (zero-add (sum_by (λ x. x.parts) rs))
+total_push : {X : Type 0} (f : X → ℕ) (xs : List X) (y : X) → total f (xs ++ y ∷ []) ≡ total f xs + f y
+total_push f [] y = omega arith
+total_push f (x ∷ xs) y = omega (arith, total_push f xs y)
 
-pub parts_on : (c : ℕ) (rs : List Reservation) → sum_by (λ r. r.parts) (filter (λ r. eqb r.core c) rs) ≡ live_parts c rs
-parts_on c [] = refl
-parts_on c (r ∷ rs) =
-    sum_if (eqb r.core c) r (filter (λ x. eqb x.core c) rs) ∙ ap (λ n. cond (eqb r.core c) r.parts 0 + n) (parts_on c rs)
+-- one row more, on the core or not
+module _ (c : ℕ) (rs : List Reservation) (i : ℕ) (d : Reservation) (within : i < length rs) where
+  more : live_parts c (take (i + 1) rs) ≡ live_parts c (take i rs) + cond (eqb (get_or rs i d).core c) (get_or rs i d).parts 0
+  more =
+      ap (live_parts c) (take_more rs i d within)
+      ∙ total_push (λ r. cond (eqb r.core c) r.parts 0) (take i rs) (get_or rs i d)
+
+  pub parts_here : (get_or rs i d).core ≡ c → live_parts c (take (i + 1) rs) ≡ live_parts c (take i rs) + (get_or rs i d).parts
+  parts_here is = let m = more in grind (arith, nat_tests)
+
+  pub parts_elsewhere : ((get_or rs i d).core ≡ c → ⊥) → live_parts c (take (i + 1) rs) ≡ live_parts c (take i rs)
+  parts_elsewhere is = let m = more in grind (arith, nat_tests)

@@ -63,8 +63,12 @@ impl Inner {
     pub fn name_dealt(&self, core: u32) -> Result<Option<u32>, Refusal>
         ensures { result ≡ name_of (bare 0 self.now) (view self.now) core }
     {
-        let place = self.core(core)?;
-        Ok(self.picks().names[place])
+        let index = self.core(core)?;
+        // One name of the eight, with no copy of them all.
+        match &self.round {
+            Some(picks) => Ok(picks.names[index]),
+            None => Ok(None),
+        }
     }
 
     pub fn picks(&self) -> Picks

@@ -17,7 +17,7 @@ use Rattle.report.proofs.lines.play.Goals as goal
 pub unwrap-engine-requires : goal.unwrap-engine-requires
 unwrap-engine-requires g c =
     let h = c.args.plan.now.header in
-    let figures = c.deref-2.ensures.value ∙ c.in_ok-figures.ensures in
+    let figures = c.deref-2.ensures.0 ∙ c.figures_of-figures.ensures in
     run_made _ _ _ _ _ _ _ _ _ _ c.run.result c.run.ensures (ap (λ fs. making fs h.start) figures ∙ limits_made h c.requires)
 
 pub unreachable-requires : goal.unreachable-requires
@@ -37,7 +37,7 @@ returns g c =
     let choice = g.P.Policy.choice c.args.policy in
     let h = c.args.plan.now.header in
     let engine = c.unwrap-engine.result.engine in
-    let figures = c.deref-2.ensures.value ∙ c.in_ok-figures.ensures in
+    let figures = c.deref-2.ensures.0 ∙ c.figures_of-figures.ensures in
     let steps : c.deref-3.result.now ≡ map step_of (map row_of c.args.plan.now.events.items) =
     c.deref-3.ensures.value ∙ c.in_ok-steps.ensures ∙ ap (λ es. map step_of (map row_of es)) c.deref.ensures.value in
     let text = map line_text c.in_ok-notes.field-0.items in
