@@ -1,6 +1,7 @@
 -- What a core counts of entries is the sum over those that count, and a sum over a list's front, one entry more.
 use Rattle.std.proofs.Common.{◌≡◌, ℕ, ◌+◌, ◌<◌, Bool, true, false, cond, List, [], ◌∷◌, length, get_or, take, map, sum, filter, refl, ap, ◌∙◌, arith}
 use Rattle.std.proofs.lemmas.List.{take_more}
+use Rattle.std.proofs.lemmas.Bool.Decides.{nat_tests}
 use Rattle.std.proofs.lemmas.List.Sums.{sum_by_from}
 use Rattle.rules.specs.Lists.{total}
 use Rattle.rules.proofs.Totals.{total_push}
@@ -25,3 +26,11 @@ module _ (t c : ℕ) where
   pub counted_sum : (es : List Entry) → sum (map (λ e. e.parts) (filter (counts t c) es)) ≡ departed_parts t c es
   counted_sum [] = refl
   counted_sum (e ∷ es) = one_more e es ∙ ap (λ n. counted_parts t c e + n) (counted_sum es)
+
+-- one entry more, which counts or does not
+module _ (t c : ℕ) (es : List Entry) (i : ℕ) (d : Entry) (within : i < length es) where
+  pub parts_here : counts t c (get_or es i d) ≡ true → departed_parts t c (take (i + 1) es) ≡ departed_parts t c (take i es) + (get_or es i d).parts
+  parts_here is = let m = total_more (counted_parts t c) es i d within in grind (arith, nat_tests)
+
+  pub parts_elsewhere : counts t c (get_or es i d) ≡ false → departed_parts t c (take (i + 1) es) ≡ departed_parts t c (take i es)
+  parts_elsewhere is = let m = total_more (counted_parts t c) es i d within in grind (arith, nat_tests)

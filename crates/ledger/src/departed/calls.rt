@@ -5,6 +5,7 @@ ghost use Rattle.calendar.specs.Queues.{queue, first};
 ghost use Rattle.rules.specs.Order.{lapses_first};
 ghost use Rattle.rules.specs.Parts.{departed_parts};
 ghost use Rattle.rules.specs.System.{ledger_limit};
+ghost use Rattle.ledger.specs.Lapses.{counts};
 ghost use Rattle.ledger.specs.Entries.{entries, SameEntries, write_answer, written, KeptIfFull, purged};
 
 use super::{LEDGER_LIMIT, Ledger};
@@ -66,11 +67,15 @@ impl Ledger {
     pub fn departed(&self, clock: u32, core: u32) -> u64
         ensures { result ≡ departed_parts clock core (entries self.now) }
     {
-        self.held()
-            .iter()
-            .filter(|entry| entry.core == core && clock < entry.lapse)
-            .map(|entry| entry.parts as u64)
-            .sum()
+        // A loop over the slice, which takes fewer steps for an entry that counts than a chain does.
+        let held = self.held();
+        let mut parts = 0;
+        for entry in held {
+            if counts(entry, clock, core) {
+                parts += entry.parts as u64;
+            }
+        }
+        parts
     }
 
     // The entries that it holds, as its places arrange them.
@@ -80,6 +85,13 @@ impl Ledger {
     {
         &self.places[..self.calendar.len()]
     }
+}
+
+// Whether a core counts an entry after the clock.
+fn counts(entry: &Entry, clock: u32, core: u32) -> bool
+    ensures { result ≡ counts clock core entry.now }
+{
+    entry.core == core && clock < entry.lapse
 }
 
 // Takes the least entry while its lapse tick has come, and shows the least that is left. A calendar's places come with it to each call.

@@ -1,18 +1,15 @@
-use Rattle.std.proofs.Common.{◌∙◌, rules, tests}
-use Rattle.std.proofs.lemmas.Iterator.{YieldsList-from_slice, YieldsList-from_map}
-use Rattle.std.proofs.lemmas.Iterator.Consumers.{YieldsList-at, YieldsList-from_filter, sum_from_yields_List}
-use Rattle.ledger.specs.Entries.{entries}
-use Rattle.ledger.specs.Lapses.{counts}
-use Rattle.ledger.proofs.Sums.{counted_sum}
+use Rattle.std.proofs.Common.{sym, ◌∙◌, arith}
+use Rattle.ledger.proofs.Sums.{parts_here, parts_elsewhere}
 use Rattle.ledger.proofs.departed.Ledger.departed.Goals as goal
+use Rattle.ledger.proofs.departed.Ledger.departed.Goals.{then-counts, else-counts}
 
-pub returns : goal.returns
-returns c =
-    sum_from_yields_List c.map.result c.sum.result c.sum.ensures.ran
-    (YieldsList-from_map _ (λ e. e.parts)
-    (YieldsList-at c.map.ensures.source
-    (YieldsList-from_filter _ (counts c.args.clock c.args.core)
-    (YieldsList-at c.filter.ensures.source (YieldsList-from_slice (entries c.args.self.now) cc))
-    c.filter.ensures.closure (λ x r q k. search (rules, tests))))
-    c.map.ensures.closure (λ x r q k. search (rules, tests)))
-    ∙ counted_sum c.args.clock c.args.core (entries c.args.self.now)
+pub loop-entry-preserved : goal.loop-entry-preserved
+loop-entry-preserved c =
+    let t = c.args.clock in
+    let core = c.args.core in
+    let held = c.held-held.result.now in
+    let i = c.loop-entry.entry-index in
+    elim c.if-counts.branch [
+      | then-counts w ↦ (omega (arith, w.parts-is, parts_here t core held i _ c.loop-entry-test.true (sym c.counts.ensures ∙ w.if-counts.true)), omega (arith, w.parts-is))
+      | else-counts w ↦ (omega (arith, w.parts-is, parts_elsewhere t core held i _ c.loop-entry-test.true (sym c.counts.ensures ∙ w.if-counts.false)), omega (arith, w.parts-is))
+    ]
